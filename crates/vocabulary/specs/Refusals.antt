@@ -1,8 +1,8 @@
 -- The refusals and their numbers.
 use mathlib.Core.Bool.{Bool, true, false}
 use Prim.Native.Nat.{ℕ}
-use Rattle.std.specs.declared.option.Option.{Option}
-use Rattle.std.specs.declared.option.Option.the-variants.{Some, None}
+use Rattle.std.specs.declared.result.Result.{Result}
+use Rattle.std.specs.declared.result.Result.the-variants.{Ok, Err}
 use Rattle.vocabulary.specs.declared.refusal.Cause.{Cause}
 use Rattle.vocabulary.specs.declared.refusal.Cause.the-variants.{NoProgram, TableLength, FieldRule, ChildNotLower, ChildSort, NotOneParent, RootNotCommand, NameNotVisible, NameRole, Fuel, TakeEnded, MemoryShort, NotThisHalf, SheetHeader, NotTheTranslation, RampRange}
 use Rattle.vocabulary.specs.declared.refusal.Refusal.{Refusal}
@@ -30,12 +30,11 @@ causeNumber RampRange = 16
 abbrev pub refusal : Cause → ℕ → Refusal
 refusal c n = record { cause = c; node = n }
 
--- a refusal unless a test is passed
-abbrev pub unless : Bool → Cause → ℕ → Option Refusal
-unless true c n = None
-unless false c n = Some (refusal c n)
+-- what a check answers: accepted, or a refusal; two checks in a row answer the first refusal (`andOther` of the library)
+abbrev pub Verdict : Type 0
+Verdict = Result (Unit {0}) Refusal
 
--- the first of two refusals, if any
-abbrev pub orElse : Option Refusal → Option Refusal → Option Refusal
-orElse None r = r
-orElse (Some e) r = Some e
+-- accepted where a test is passed, and else refused
+abbrev pub unless : Bool → Cause → ℕ → Verdict
+unless true c n = Ok tt
+unless false c n = Err (refusal c n)

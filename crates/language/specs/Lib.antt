@@ -1,0 +1,11 @@
+pub mod Tree
+pub mod Fields
+pub mod Table
+pub mod Reading
+pub mod Scope
+pub mod Names
+pub mod Translation
+pub mod WellFormed
+pub mod Verdicts
+pub mod Outcomes
+pub mod Meaning
