@@ -1,0 +1,4 @@
+pub mod State
+pub mod Instructions
+pub mod Machine
+pub mod Links

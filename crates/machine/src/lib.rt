@@ -1,0 +1,2 @@
+// The machine: an instruction a function, a step, and a run between a feed and a strip.
+pub mod tables;
