@@ -1,0 +1,3 @@
+pub mod Feeds
+pub mod Traces
+pub mod Ramps
