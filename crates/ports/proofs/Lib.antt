@@ -1,2 +1,4 @@
 pub mod Traced
 pub mod Ramped
+pub mod Filled
+pub mod Keeping

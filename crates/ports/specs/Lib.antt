@@ -1,3 +1,7 @@
 pub mod Feeds
 pub mod Traces
 pub mod Ramps
+pub mod Strips
+pub mod Kept
+pub mod Records
+pub mod Laws

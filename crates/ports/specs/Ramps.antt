@@ -6,7 +6,6 @@ use lib.IntN.{ℤ, pos, _+ℤ_, _*ℤ_}
 use Rattle.vocabulary.specs.declared.item.Item.{Item}
 use Rattle.vocabulary.specs.declared.item.Item.the-variants.{Reading}
 use Rattle.vocabulary.specs.Numbers.{within32}
-use Rattle.ports.specs.Feeds.{Lawful}
 
 -- the reading number k
 abbrev pub rung : ℤ → ℤ → ℕ → ℤ
@@ -29,11 +28,3 @@ rampItems start step count = rungs start step 0 count
 -- whether all of them are within 32 bits
 abbrev pub rampFits : ℤ → ℤ → ℕ → Bool
 rampFits start step count = rungsFit start step 0 count
-
-rungs-lawful : (start step : ℤ) (k n : ℕ) → Lawful (rungs start step k n)
-rungs-lawful start step k zero = tt
-rungs-lawful start step k (suc n) = (tt, rungs-lawful start step (suc k) n)
-
--- no reading is a fault
-pub ramp-lawful : (start step : ℤ) (count : ℕ) → Lawful (rampItems start step count)
-ramp-lawful start step count = rungs-lawful start step 0 count

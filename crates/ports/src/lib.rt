@@ -2,4 +2,6 @@
 // and the two traits by which anyone adds one.
 pub mod feed;
 pub mod ramp;
+pub mod records;
+pub mod strip;
 pub mod trace;

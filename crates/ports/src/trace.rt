@@ -1,7 +1,8 @@
 ghost use mathlib.Core.Path.{_≡_};
 ghost use denote.Ref.{now as behind};
 ghost use lib.ListN.{drop};
-ghost use Rattle.ports.specs.Traces.{itemsOf, items-lawful};
+ghost use Rattle.ports.specs.Laws.{items-lawful};
+ghost use Rattle.ports.specs.Traces.{itemsOf};
 use crate::feed::Feed;
 use vocabulary::item::Fault;
 use vocabulary::item::Item;
