@@ -11,6 +11,7 @@ use Rattle.vocabulary.specs.declared.value.Plain.{Plain}
 use Rattle.ports.specs.declared.trace.Record.{Record}
 use Rattle.ports.specs.Feeds.{LawfulItem, Lawful}
 use Rattle.ports.specs.Kept.{overlay, Kept}
+use Rattle.ports.specs.Lines.{lineLength}
 use Rattle.ports.specs.Ramps.{rungs, rampItems}
 use Rattle.ports.specs.Records.{one}
 use Rattle.ports.specs.Traces.{coded, itemsOf}
@@ -35,6 +36,10 @@ ramp-lawful start step count = rungs-lawful start step 0 count
 -- a record strip has no free value
 pub one-costs : (value : Plain) → 1 ≤ one value
 one-costs value = omega arith
+
+-- nor has a text strip: each line has an end
+pub line-costs : (value : Plain) → 1 ≤ lineLength value
+line-costs value = rw length-append (omega arith)
 
 -- nothing done keeps the memory
 pub kept-stays : {X : Type 0} (memory : RefT (List X)) (used : ℕ) (written : List X) → used ≤ length (now memory) → written ≡ take used (now memory) → Kept memory memory written written

@@ -4,4 +4,5 @@ pub mod Ramps
 pub mod Strips
 pub mod Kept
 pub mod Records
+pub mod Lines
 pub mod Laws

@@ -4,4 +4,5 @@ pub mod feed;
 pub mod ramp;
 pub mod records;
 pub mod strip;
+pub mod text;
 pub mod trace;
