@@ -1,5 +1,6 @@
 -- Every example is shown by computing it.
 use mathlib.Core.Path.{_≡_, refl}
+use Rattle.std.specs.Written.{digits}
 use Rattle.language.specs.Fields.{fieldsOf, formed, children}
 use Rattle.language.specs.Meaning.{meaning, evalE, evalC, evalD}
 use Rattle.language.specs.Names.{namesE, namesC, namesD}
@@ -11,7 +12,7 @@ use Rattle.worked.specs.Examples.{Ends, Examples}
 use Rattle.worked.specs.Refused.{RefusedExamples}
 
 pub examples : Examples
-unfolding fieldsOf formed children meaning evalE evalC evalD namesE namesC namesD formE formC formD grownE grownC grownD treeE treeC treeD nodesIn childrenIn upward taken
+unfolding digits fieldsOf formed children meaning evalE evalC evalD namesE namesC namesD formE formC formD grownE grownC grownD treeE treeC treeD nodesIn childrenIn upward taken
 examples = record {
   one-output = record { accepted = refl; means = refl; runs = refl; counts = refl };
   one-output-code = refl;
