@@ -1,0 +1,7 @@
+pub mod Traced
+pub mod Ramped
+pub mod Keeping
+pub mod Filled
+pub mod Spelled
+pub mod Parsed
+pub mod Lined
