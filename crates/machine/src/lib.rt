@@ -5,4 +5,7 @@ pub mod state;
 mod stack;
 mod scope;
 mod control;
+mod io;
+mod step;
+mod run;
 mod fresh;
