@@ -1,0 +1,35 @@
+ghost use mathlib.Core.Path.{_≡_};
+ghost use mathlib.Core.Bool.{true};
+ghost use Prim.Native.Nat.{_≤_};
+ghost use lib.ListN.{length};
+ghost use Rattle.vocabulary.specs.Tables.{stack};
+ghost use Rattle.machine.specs.Links.{linked, Opened, Found};
+use crate::tables::Entry;
+use vocabulary::table::get;
+
+// The newest entry of an environment.
+fn newest(entries: &[Entry], bound: usize, env: u16) -> Option<Entry>
+    requires fits { ⌜ bound ≤ length (now entries) ⌝ }
+    requires older { ⌜ linked (stack (now entries) bound) ≡ true ⌝ }
+    ensures { λ r. ⌜ Opened (stack (now (entries .entry)) bound) env r ⌝ }
+{
+    if env == 0 {
+        return None;
+    }
+    get(entries, bound, env as usize - 1)
+}
+
+// The entry with `newer` newer ones in its environment.
+pub(crate) fn find(entries: &[Entry], bound: usize, env: u16, newer: u16) -> Option<Entry>
+    requires fits { ⌜ bound ≤ length (now entries) ⌝ }
+    requires older { ⌜ linked (stack (now entries) bound) ≡ true ⌝ }
+    ensures { λ r. ⌜ Found (stack (now (entries .entry)) bound) env newer r ⌝ }
+{
+    let Some(entry) = newest(entries, bound, env) else {
+        return None;
+    };
+    if newer == 0 {
+        return Some(entry);
+    }
+    find(entries, bound, entry.below, newer - 1)
+}
