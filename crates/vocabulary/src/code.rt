@@ -1,5 +1,6 @@
 ghost use mathlib.Core.Path.{_≡_};
 ghost use Rattle.vocabulary.specs.Codes.{opcodeOf, operandOf, operatorOf};
+use std::fmt;
 
 // The operations on two numbers, in the order of their operator numbers 1 to 6.
 #[derive(Clone, Copy)]
@@ -110,6 +111,46 @@ impl Instruction {
             | Instruction::Bind
             | Instruction::New
             | Instruction::Halt => 0,
+        }
+    }
+}
+
+pub impl fmt::Display for Operation as OperationDisplay {
+    fn fmt<W: fmt::Write>(&self, f: &mut fmt::Formatter<W>) -> fmt::Result {
+        f.write_str(match self {
+            Operation::Sum => "sum",
+            Operation::Difference => "difference",
+            Operation::Product => "product",
+            Operation::Quotient => "quotient",
+            Operation::Equal => "equal",
+            Operation::Less => "less",
+        })
+    }
+}
+
+impl Instruction {
+    // Its name in listings.
+    pub fn name(self) -> &'static str {
+        match self {
+            Instruction::Num(_) => "NUM",
+            Instruction::Truth(_) => "TRUTH",
+            Instruction::Read => "READ",
+            Instruction::Look(_) => "LOOK",
+            Instruction::Deref => "DEREF",
+            Instruction::Op(_) => "OP",
+            Instruction::JumpFalse(_) => "JF",
+            Instruction::Jump(_) => "JMP",
+            Instruction::Call(_) => "CALL",
+            Instruction::Ret => "RET",
+            Instruction::IsLoc => "ISLOC",
+            Instruction::Store => "STORE",
+            Instruction::Put => "PUT",
+            Instruction::Enter => "ENTER",
+            Instruction::Leave => "LEAVE",
+            Instruction::Bind => "BIND",
+            Instruction::New => "NEW",
+            Instruction::Clos(_) => "CLOS",
+            Instruction::Halt => "HALT",
         }
     }
 }

@@ -2,6 +2,7 @@ ghost use mathlib.Core.Path.{_≡_};
 ghost use Rattle.vocabulary.specs.Ends.{numberOf, codeOf};
 ghost use Rattle.vocabulary.specs.declared.end.End.the-variants.{Fault as Faulted};
 use crate::item::Fault;
+use std::fmt;
 
 // Why a take has ended.
 #[derive(Clone, Copy)]
@@ -67,5 +68,24 @@ pub impl From<Fault> for End as EndFromFault {
 
     fn from(fault: Fault) -> End {
         End::Fault(fault)
+    }
+}
+
+pub impl fmt::Display for End as EndDisplay {
+    fn fmt<W: fmt::Write>(&self, f: &mut fmt::Formatter<W>) -> fmt::Result {
+        match self {
+            End::Halt => f.write_str("the program is done"),
+            End::NoLocation => f.write_str("the left side of an assignment is no location"),
+            End::NoTruth => f.write_str("a test is no truth"),
+            End::NoNumber => f.write_str("an operand is no number"),
+            End::Overflow => f.write_str("a result is beyond 32 bits"),
+            End::ZeroDivisor => f.write_str("a divisor is 0"),
+            End::Empty => f.write_str("the feed is empty"),
+            End::Fault(fault) => {
+                let code = fault.code;
+                write!(f, "the feed has fault {code}")
+            }
+            End::Full => f.write_str("the strip has too little space"),
+        }
     }
 }
