@@ -5,6 +5,7 @@ use Rattle.std.specs.declared.option.Option.{Option}
 use Rattle.std.specs.declared.option.Option.the-variants.{Some, None}
 use Rattle.std.specs.Options.{mapped}
 use Rattle.vocabulary.specs.declared.code.Word.{Word}
+use Rattle.vocabulary.specs.declared.node.Node.{Node}
 use Rattle.vocabulary.specs.Tables.{front}
 use Rattle.language.specs.Reading.{treeOf}
 use Rattle.language.specs.Table.{nodesOf}
@@ -46,7 +47,11 @@ begun p = record { program = Some p; status = Running; core = blank; granted = 0
 abbrev pub programOf : List ℕ → Program
 programOf table = record { nodes = nodesOf table; code = translated (treeOf (nodesOf table)) }
 
--- the code of the program, if there is one
+-- the nodes and the code of the program, if there is one
+abbrev pub nodesIn : Option Program → List Node
+nodesIn None = []
+nodesIn (Some p) = p .nodes
+
 abbrev pub codeOf : Option Program → List Word
 codeOf None = []
 codeOf (Some p) = p .code

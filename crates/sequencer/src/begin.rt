@@ -1,8 +1,10 @@
 ghost use mathlib.Core.Path.{_≡_};
-ghost use Rattle.sequencer.specs.Model.{model, fresh};
+ghost use Rattle.sequencer.specs.Model.{model, fresh, nodesIn, codeOf};
 use crate::state::Sequencer;
 use machine::state::Machine;
 use machine::tables::Status;
+use vocabulary::code::Word;
+use vocabulary::node::Node;
 
 impl Sequencer {
     // No program.
@@ -10,5 +12,25 @@ impl Sequencer {
         ensures { λ r. ⌜ model r ≡ fresh ⌝ }
     {
         Sequencer { program: None, machine: Machine::new(), status: Status::Running, granted: 0, steps: 0 }
+    }
+
+    // The nodes of the program, none where there is no program.
+    pub fn nodes(&self) -> &[Node]
+        ensures { λ r. ⌜ now r ≡ nodesIn (model (now (self .entry)) .program) ⌝ }
+    {
+        match &self.program {
+            Some(program) => &program.nodes[0..program.count],
+            None => &[],
+        }
+    }
+
+    // The code of the program, none where there is no program.
+    pub fn code(&self) -> &[Word]
+        ensures { λ r. ⌜ now r ≡ codeOf (model (now (self .entry)) .program) ⌝ }
+    {
+        match &self.program {
+            Some(program) => program.code.text(),
+            None => &[],
+        }
     }
 }
