@@ -59,12 +59,12 @@ kept-goes first second third a b c h k =
     let size : length (now second) ≡ length m = ap length (h .memory) ∙ length-append b (drop (length b) m) ∙ (let d = length-drop (length b) m in let w = h .within in omega arith) in
     let s : length c ≡ length b + (length c - length b) = let g = k .grown in omega arith in
     let on : drop (length c) (now second) ≡ drop (length c) m =
-        ap (λ n. drop n (now second)) s
-        ∙ sym (drop-drop (length c - length b) (length b) (now second))
-        ∙ ap (λ xs. drop (length c - length b) (drop (length b) xs)) (h .memory)
-        ∙ ap (drop (length c - length b)) (drop-at b (drop (length b) m) (length b) refl)
-        ∙ drop-drop (length c - length b) (length b) m
-        ∙ sym (ap (λ n. drop n m) s) in
+    ap (λ n. drop n (now second)) s
+    ∙ sym (drop-drop (length c - length b) (length b) (now second))
+    ∙ ap (λ xs. drop (length c - length b) (drop (length b) xs)) (h .memory)
+    ∙ ap (drop (length c - length b)) (drop-at b (drop (length b) m) (length b) refl)
+    ∙ drop-drop (length c - length b) (length b) m
+    ∙ sym (ap (λ n. drop n m) s) in
     record {
       same = k .same ∙ h .same;
       grown = omega arith;

@@ -13,6 +13,7 @@ use ports::text::TextStrip;
 use ports::text::TextStripStrip;
 use vocabulary::value::Plain;
 
+pub mod own;
 #[cfg(test)]
 mod tests;
 

@@ -1,3 +1,5 @@
+use ports::copy::Stop;
+use ports::copy::copy_to_text;
 use ports::feed::Feed;
 use ports::ramp::Ramp;
 use ports::ramp::RampFeed;
@@ -18,10 +20,16 @@ use vocabulary::value::Plain;
 fn writes_in(memory: &mut [u8], value: Plain, line: &[u8]) -> Result<(), Fail> {
     let length = line.len();
     check(1 <= length && length <= memory.len())?;
-    check_eq(TextStrip::new(&mut memory[0..length - 1]).put(value), Placed::Full)?;
+    check_eq(
+        TextStrip::new(&mut memory[0..length - 1]).put(value),
+        Placed::Full,
+    )?;
     check_eq(memory[length - 1], b'.')?;
     check_eq(memory[0], b'.')?;
-    check_eq(TextStrip::new(&mut memory[0..length]).put(value), Placed::Done)?;
+    check_eq(
+        TextStrip::new(&mut memory[0..length]).put(value),
+        Placed::Done,
+    )?;
     check_eq(&memory[0..length], line)
 }
 
@@ -52,10 +60,22 @@ fn told(item: Option<Item>) -> i64 {
 #[test]
 fn trace_with_faults() -> Result<(), Fail> {
     let records = [
-        Record { code: 0, reading: 5 },
-        Record { code: 1, reading: 6 },
-        Record { code: 255, reading: 0 },
-        Record { code: 0, reading: -7 },
+        Record {
+            code: 0,
+            reading: 5,
+        },
+        Record {
+            code: 1,
+            reading: 6,
+        },
+        Record {
+            code: 255,
+            reading: 0,
+        },
+        Record {
+            code: 0,
+            reading: -7,
+        },
     ];
     let mut trace = Trace::new(&records);
     for expected in [5, 1001, 1255, -7, -1, -1] {
@@ -99,4 +119,34 @@ fn ramps_at_the_edges() -> Result<(), Fail> {
         check_eq(readings(start, step, count), expected)?;
     }
     Ok(())
+}
+
+#[test]
+fn copies_until_a_fault() -> Result<(), Fail> {
+    let records = [
+        Record {
+            code: 0,
+            reading: 5,
+        },
+        Record {
+            code: 0,
+            reading: -7,
+        },
+        Record {
+            code: 3,
+            reading: 0,
+        },
+        Record {
+            code: 0,
+            reading: 9,
+        },
+    ];
+    let mut trace = Trace::new(&records);
+    let mut bytes = [b'.'; 8];
+    let Stop::Fault(fault) = copy_to_text(&mut trace, &mut bytes, 9) else {
+        return Err(Fail::new("no fault"));
+    };
+    check_eq(fault.code, 3)?;
+    check_eq(&bytes, b"5\n-7\n...")?;
+    check_eq(told(trace.take()), 9)
 }

@@ -55,8 +55,9 @@ loop-done-again g c =
     let fit : SFits w32 z = search needs in
     let e : toZ w32 (ofZ w32 z) ≡ z = toZ-ofZ w32 z fit in
     let t = c .in-Some .ensures tt ∙ ap (λ x. x ∷ f .waiting (c .take .last .self)) (c .in-Reading .is ∙ sym (ap Reading e)) in
-    let n : c .args .limit - (l .-done + 1) ≡ (c .args .limit - l .-done) - 1 = omega arith in
-    ( ap (λ k. copied (s .price) k (f .waiting (c .take .last .self)) (s .held (c .put .last .self)) (s .space (c .put .last .self))) n
-      ∙ sym (copied-done (s .price) (c .args .limit - l .-done) (f .waiting (l .feed)) (s .held (l .strip)) (s .space (l .strip)) (omega arith) (f .waiting (c .take .last .self)) (toZ w32 (ofZ w32 z)) t (s .held (c .put .last .self)) (s .space (c .put .last .self)) (c .in-Done .ensures tt .answer))
-      ∙ l .inv .0
-    , s .goes _ _ _ (l .inv .1) (c .in-Done .ensures tt .kept))
+    let n : c .args .limit - (l .-done + 1) ≡ (c .args .limit - l .-done) - 1 = omega arith in (
+      ap (λ k. copied (s .price) k (f .waiting (c .take .last .self)) (s .held (c .put .last .self)) (s .space (c .put .last .self))) n
+          ∙ sym (copied-done (s .price) (c .args .limit - l .-done) (f .waiting (l .feed)) (s .held (l .strip)) (s .space (l .strip)) (omega arith) (f .waiting (c .take .last .self)) (toZ w32 (ofZ w32 z)) t (s .held (c .put .last .self)) (s .space (c .put .last .self)) (c .in-Done .ensures tt .answer))
+          ∙ l .inv .0,
+      s .goes _ _ _ (l .inv .1) (c .in-Done .ensures tt .kept),
+    )

@@ -9,5 +9,5 @@ Inv-loop-done g l =
     let f = g .F·Feed in
     let s = g .S·Strip in
     (copied (s .price) (l .limit - l .-done) (f .waiting (l .feed)) (s .held (l .strip)) (s .space (l .strip))
-      ≡ copied (s .price) (l .limit) (f .waiting (l .entry .feed)) (s .held (l .entry .strip)) (s .space (l .entry .strip)))
+    ≡ copied (s .price) (l .limit) (f .waiting (l .entry .feed)) (s .held (l .entry .strip)) (s .space (l .entry .strip)))
     × s .keeps (l .entry .strip) (l .strip)
