@@ -5,3 +5,4 @@ pub mod Filled
 pub mod Spelled
 pub mod Parsed
 pub mod Lined
+pub mod Copying

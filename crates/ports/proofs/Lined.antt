@@ -47,18 +47,20 @@ module _ (earlier later : RefT (List ℕ)) (used filled : ℕ) (v : Plain) (line
       let size : lineLength v ≡ length line = ap length (sym is) in
       let long = long-is (a .1) (a .3) (a .0) in
       let k = a .1 in
-      let h = a .0 in
-      ( omega arith
-      , ap valuesIn (front-is (a .1) (a .3) ∙ ap (λ t. take used (now earlier) ++ t) is) ∙ values-more (take used (now earlier)) v small whole
-      , omega arith)
+      let h = a .0 in (
+        omega arith,
+        ap valuesIn (front-is (a .1) (a .3) ∙ ap (λ t. take used (now earlier) ++ t) is) ∙ values-more (take used (now earlier)) v small whole,
+        omega arith,
+      )
   line-put Full a =
       let size : lineLength v ≡ length line = ap length (sym is) in
       let h = a .0 in
       let k = a .1 in
-      let same : length (now later) ≡ length (now earlier) = ap (λ x. length (now x)) (a .2) in
-      ( omega arith
-      , ap (λ x. valuesIn (take filled (now x))) (a .2) ∙ ap (λ j. valuesIn (take j (now earlier))) (a .1)
-      , omega arith)
+      let same : length (now later) ≡ length (now earlier) = ap (λ x. length (now x)) (a .2) in (
+        omega arith,
+        ap (λ x. valuesIn (take filled (now x))) (a .2) ∙ ap (λ j. valuesIn (take j (now earlier))) (a .1),
+        omega arith,
+      )
 
   pub line-kept : (r : Placed) → Added earlier later used filled line r → Kept earlier later (textOf (valuesIn (take used (now earlier)))) (textOf (valuesIn (take filled (now later))))
   line-kept Done a =

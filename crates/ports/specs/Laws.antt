@@ -52,22 +52,29 @@ kept-stays memory used written h e =
       memory = sym (ap (λ w. w ++ drop (length written) (now memory)) e ∙ ap (λ k. take used (now memory) ++ drop k (now memory)) n ∙ take-append-drop used (now memory));
     }
 
+drop-beyond : {X : Type 0} (before after memory later : List X) → length before ≤ length after → later ≡ overlay before memory → drop (length after) later ≡ drop (length after) memory
+drop-beyond before after memory later grown e =
+    let k = length after - length before in
+    let s : length after ≡ length before + k = omega arith in
+    ap (λ n. drop n later) s
+    ∙ sym (drop-drop k (length before) later)
+    ∙ ap (λ xs. drop k (drop (length before) xs)) e
+    ∙ ap (drop k) (drop-at before (drop (length before) memory) (length before) refl)
+    ∙ drop-drop k (length before) memory
+    ∙ sym (ap (λ n. drop n memory) s)
+
+length-overlay : {X : Type 0} (written memory : List X) → length written ≤ length memory → length (overlay written memory) ≡ length memory
+length-overlay written memory h =
+    let d = length-drop (length written) memory in
+    length-append written (drop (length written) memory) ∙ (omega arith)
+
 -- what is kept twice in a row is kept
 pub kept-goes : {X : Type 0} (first second third : RefT (List X)) (a b c : List X) → Kept first second a b → Kept second third b c → Kept first third a c
 kept-goes first second third a b c h k =
-    let m = now first in
-    let size : length (now second) ≡ length m = ap length (h .memory) ∙ length-append b (drop (length b) m) ∙ (let d = length-drop (length b) m in let w = h .within in omega arith) in
-    let s : length c ≡ length b + (length c - length b) = let g = k .grown in omega arith in
-    let on : drop (length c) (now second) ≡ drop (length c) m =
-        ap (λ n. drop n (now second)) s
-        ∙ sym (drop-drop (length c - length b) (length b) (now second))
-        ∙ ap (λ xs. drop (length c - length b) (drop (length b) xs)) (h .memory)
-        ∙ ap (drop (length c - length b)) (drop-at b (drop (length b) m) (length b) refl)
-        ∙ drop-drop (length c - length b) (length b) m
-        ∙ sym (ap (λ n. drop n m) s) in
+    let size = ap length (h .memory) ∙ length-overlay b (now first) (h .within) in
     record {
       same = k .same ∙ h .same;
       grown = omega arith;
       within = omega arith;
-      memory = k .memory ∙ ap (λ xs. c ++ xs) on;
+      memory = k .memory ∙ ap (λ xs. c ++ xs) (drop-beyond b c (now first) (now second) (k .grown) (h .memory));
     }

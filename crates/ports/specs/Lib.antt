@@ -6,3 +6,4 @@ pub mod Kept
 pub mod Records
 pub mod Lines
 pub mod Laws
+pub mod Copies

@@ -41,9 +41,16 @@ impl Ramp {
         ensures { λ r. ⌜ elim r [ Ok ramp ↦ (rampFits start step count ≡ true) × (rampItems (ramp .at) (ramp .step) (ramp .left) ≡ rampItems start step count) | Err e ↦ (rampFits start step count ≡ false) × (e ≡ refusal RampRange 0) ] ⌝ }
     {
         if fits(start, step, count) {
-            Ok(Ramp { at: start, step, left: count })
+            Ok(Ramp {
+                at: start,
+                step,
+                left: count,
+            })
         } else {
-            Err(Refusal { cause: Cause::RampRange, node: 0 })
+            Err(Refusal {
+                cause: Cause::RampRange,
+                node: 0,
+            })
         }
     }
 }

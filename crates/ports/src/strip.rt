@@ -5,7 +5,7 @@ ghost use Rattle.ports.specs.Strips.{Put};
 use vocabulary::value::Plain;
 
 // What a put answers.
-#[derive(Clone, Copy)]
+#[derive(Clone, Copy, PartialEq, Eq, Debug)]
 pub enum Placed {
     Done,
     Full,

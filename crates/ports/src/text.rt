@@ -29,7 +29,11 @@ fn spell(number: u32, buffer: &mut [u8], end: usize) -> usize
 {
     let at = end - 1;
     buffer[at] = b'0' + (number % 10) as u8;
-    if number < 10 { at } else { spell(number / 10, buffer, at) }
+    if number < 10 {
+        at
+    } else {
+        spell(number / 10, buffer, at)
+    }
 }
 
 // Writes the line of a number at the end of `buffer`, which has room for the longest, and answers where it begins.

@@ -17,19 +17,19 @@ loop-i-holds c = (paste-none (c .args .self .now .bytes .now) (c .args .self .no
 pub ghost-self : need.ghost-self
 ghost-self c =
     let w = c .loop-i .inv .1 in
-    let x = getD (c .args .line .now) (c .loop-i .i) 0 in
-    let l = length-set (c .loop-i .self .bytes .now) (c .args .self .now .used + c .loop-i .i) x in
-    let h : c .loop-i .self .used ≤ c .args .self .now .used + c .loop-i .i = omega arith in
-    ( search needs
-    , (subst Whole (sym (take-set-le (c .loop-i .self .used) (c .loop-i .self .bytes .now) (c .args .self .now .used + c .loop-i .i) x h)) (c .loop-i .self .whole), tt))
+    let h : c .loop-i .self .used ≤ c .args .self .now .used + c .loop-i .i = omega arith in (
+      simp length-set (search needs),
+      (subst Whole (sym (take-set-le (c .loop-i .self .used) (c .loop-i .self .bytes .now) (c .args .self .now .used + c .loop-i .i) _ h)) (c .loop-i .self .whole), tt),
+    )
 
 pub loop-i-again : need.loop-i-again
 loop-i-again c =
-    let i = c .loop-i .inv in
-    ( ap (λ b. set b (c .args .self .now .used + c .loop-i .i) (getD (c .args .line .now) (c .loop-i .i) 0)) (i .0)
-      ∙ paste-more (c .args .self .now .bytes .now) (c .args .self .now .used) (c .args .line .now) (c .loop-i .i) 0 (search needs) (search needs)
-    , i .1
-    , i .2)
+    let i = c .loop-i .inv in (
+      ap (λ b. set b (c .args .self .now .used + c .loop-i .i) (getD (c .args .line .now) (c .loop-i .i) 0)) (i .0)
+          ∙ paste-more (c .args .self .now .bytes .now) (c .args .self .now .used) (c .args .line .now) (c .loop-i .i) 0 (search needs) (search needs),
+      i .1,
+      i .2,
+    )
 
 pub ghost-self-then-n-self : need.ghost-self-then-n-self
 ghost-self-then-n-self c =
