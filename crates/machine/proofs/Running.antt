@@ -1,3 +1,4 @@
+-- A run by its steps: what is left to do from where it has come, and what it comes to when the fuel is spent or the machine stops.
 use mathlib.Core.Logic.{_⊎_, inl, inr}
 use Rattle.vocabulary.specs.declared.end.End.{End}
 use mathlib.Core.Path.{_≡_, refl, ap, sym, _∙_, subst}

@@ -1,4 +1,5 @@
--- What the machine of lists does where the tables' links change.
+-- What the machine of lists does in the instructions that change the links of the tables, said of the lists that the tables
+-- show before and after; and a step from its instruction.
 use mathlib.Core.Path.{_≡_, refl, ap, sym, _∙_, subst}
 use mathlib.Core.List.{List, [], _∷_, _++_}
 use mathlib.Core.Bool.{Bool, true, false}
@@ -18,7 +19,7 @@ use Rattle.machine.specs.declared.tables.Frame.{Frame}
 use Rattle.vocabulary.specs.World.{Rules}
 use Rattle.machine.specs.Instructions.{bindAs, enter, leave, ret, call, goto}
 use Rattle.machine.specs.Machine.{perform, obey, step}
-use Rattle.machine.specs.State.{Dump, Core, core, Ports, noted, joined}
+use Rattle.machine.specs.State.{Dump, Core, core, Turn, Ports, noted, joined}
 use Rattle.machine.specs.State.Moved.{moved}
 use Rattle.machine.specs.State.State.{running}
 use Rattle.machine.specs.State.Dump.{frame}
@@ -31,18 +32,16 @@ use Rattle.machine.specs.State.Turn.{goes, stuck}
 use Rattle.machine.specs.Links.{chain, chains, linked, nested, Found}
 use Rattle.machine.proofs.Linking.{Grown, Back, chains-length, chains-more, chains-none, nested-enter, nested-env}
 
-pub leave-none : (c : Core) (t : List Entry) (fs : List Frame) → fs ≡ [] → stuck ≡ leave (chains t fs) c
-leave-none c t fs h = sym (ap (λ ds. leave ds c) (chains-none t fs h))
-
-pub ret-none : (c : Core) (t : List Entry) (fs : List Frame) → fs ≡ [] → stuck ≡ ret (chains t fs) c
-ret-none c t fs h = sym (ap (λ ds. ret ds c) (chains-none t fs h))
+-- a frame is wanted where the dump has none
+pub undumped : (f : List Dump → Core → Turn) (c : Core) (t : List Entry) (fs : List Frame) → f [] c ≡ stuck → fs ≡ [] → stuck ≡ f (chains t fs) c
+undumped f c t fs n h = sym (ap (λ ds. f ds c) (chains-none t fs h) ∙ n)
 
 module _ (at : ℕ) (cells : List Plain) where
   pub bind-goes : (vals : List Value) (t u : List Entry) (fs : List Frame) (c : Entry) (k : ℕ) → length t < 512 → Grown t u fs c k →
       goes (core at vals (chain u k) (length u) (chains u fs) cells) ≡ bindAs 512 (c .what) (core at vals (chain t (c .below)) (length t) (chains t fs) cells)
   bind-goes vals t u fs c k h g =
       let l : ltb (length t) 512 ≡ true = lt-ltb (length t) 512 h in
-      rw (g .scope, g .counts, g .dumps, l)
+      rw (g .environment, g .counts, g .dumps, l)
 
   pub enter-goes : (vals : List Value) (t : List Entry) (fs gs : List Frame) (f : Frame) → length fs < 512 → gs ≡ f ∷ fs → f .bound ≡ length t → f .other ≡ length cells →
       goes (core at vals (chain t (f .env)) (length t) (chains t gs) cells) ≡ enter 512 (core at vals (chain t (f .env)) (length t) (chains t fs) cells)

@@ -1,10 +1,12 @@
 use borrow.Author.Needs.{needs}
+use mathlib.Core.Path.{refl}
+use Rattle.machine.specs.Instructions.{leave}
 use Rattle.machine.proofs.Linking.{back}
-use Rattle.machine.proofs.Turning.{leave-none, leave-goes}
+use Rattle.machine.proofs.Turning.{undumped, leave-goes}
 use Rattle.machine.proofs.state.Machine.leave.Needs as need
 
 pub returns-in-rest : need.returns-in-rest
-returns-in-rest c = leave-none _ _ _ (c .in-rest .ensures tt .stacked .0)
+returns-in-rest c = undumped leave _ _ _ refl (c .in-rest .ensures tt .stacked .0)
 
 pub ghost-self-2 : need.ghost-self-2
 ghost-self-2 c =

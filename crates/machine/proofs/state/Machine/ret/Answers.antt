@@ -1,10 +1,12 @@
 use borrow.Author.Needs.{needs}
+use mathlib.Core.Path.{refl}
+use Rattle.machine.specs.Instructions.{ret}
 use Rattle.machine.proofs.Linking.{back}
-use Rattle.machine.proofs.Turning.{ret-none, ret-goes}
+use Rattle.machine.proofs.Turning.{undumped, ret-goes}
 use Rattle.machine.proofs.state.Machine.ret.Needs as need
 
 pub returns-in-rest : need.returns-in-rest
-returns-in-rest c = ret-none _ _ _ (c .in-rest .ensures tt .stacked .0)
+returns-in-rest c = undumped ret _ _ _ refl (c .in-rest .ensures tt .stacked .0)
 
 pub ghost-self-2 : need.ghost-self-2
 ghost-self-2 c =
