@@ -1,9 +1,9 @@
 -- Environments and dump read off the tables stay the same lists where the tables grow or are given back, since each entry's
 -- environment is older than the entry (`linked`) and each frame's is among the bindings in use with it (`nested`).
 use mathlib.Core.Path.{_≡_, refl, ap, sym, _∙_, subst}
-use mathlib.Core.Logic.{_⊎_, inl, inr}
+use mathlib.Core.Logic.{inl, inr}
 use mathlib.Core.List.{List, [], _∷_, _++_, reverse}
-use mathlib.Core.Bool.{Bool, true, false, cond, _&&_}
+use mathlib.Core.Bool.{true, false, cond, _&&_}
 use Prim.Native.Nat.{ℕ, zero, suc, _+_, _-_, _≤_, _<_}
 use native.Mathlib.Omega.{arith}
 use native.Mathlib.Nat.{not-suc-le-zero, le-of-suc-le-suc}
@@ -15,7 +15,6 @@ use Rattle.vocabulary.proofs.Tabled.{found-none}
 use Rattle.vocabulary.specs.Tables.{found, oldest}
 use Rattle.std.specs.declared.option.Option.{Option}
 use Rattle.std.specs.declared.option.Option.the-variants.{Some, None}
-use Rattle.machine.specs.declared.tables.Bound.{Bound}
 use Rattle.machine.specs.declared.tables.Entry.{Entry}
 use Rattle.machine.specs.declared.tables.Frame.{Frame}
 use Rattle.machine.specs.State.Dump.{frame}

@@ -3,7 +3,7 @@ use mathlib.Core.Logic.{_⊎_, inl, inr}
 use Rattle.vocabulary.specs.declared.end.End.{End}
 use mathlib.Core.Path.{_≡_, refl, ap, sym, _∙_, subst}
 use mathlib.Core.List.{List}
-use Prim.Native.Nat.{ℕ, zero, suc, _+_, _-_, _≤_, _<_}
+use Prim.Native.Nat.{ℕ, zero, suc, _+_, _-_, _<_}
 use native.Mathlib.Omega.{arith}
 use Rattle.machine.specs.declared.tables.Status.{Status}
 use Rattle.machine.specs.declared.tables.Status.the-variants.{Running, Halted, Broken}

@@ -1,6 +1,7 @@
 use borrow.Author.Needs.{needs}
 use mathlib.Core.Path.{refl}
 use Rattle.machine.specs.Instructions.{leave}
+use Rattle.machine.specs.Seen.{seen}
 use Rattle.machine.proofs.Linking.{back}
 use Rattle.machine.proofs.Turning.{undumped, leave-goes}
 use Rattle.machine.proofs.state.Machine.leave.Needs as need
@@ -16,4 +17,4 @@ ghost-self-2 c =
 pub returns : need.returns
 returns c =
     let b = back _ _ _ _ _ _ (c .in-Some .ensures tt .stacked) (c .truncate .ensures .stacked) (c .args .self .now .older) (c .args .self .now .inner) in
-    leave-goes (c .args .self .now .position) _ _ _ _ _ _ _ _ _ _ _ (c .truncate-2 .ensures .fronted) b
+    leave-goes (seen (c .args .self .now)) _ _ _ _ _ _ (c .truncate-2 .ensures .fronted) b
