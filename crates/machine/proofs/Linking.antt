@@ -154,7 +154,8 @@ opened (c ∷ t) k x l h =
       | inr (inr gt) ↦
           let ll : length (reverse t ++ (c ∷ [])) ≡ suc (length t) = sym (ap length rev) ∙ length-reverse (c ∷ t) in
           let g : found (reverse t ++ (c ∷ [])) k ≡ None = found-none (reverse t ++ (c ∷ [])) k (omega arith) in
-          let z : _≡_ {A = ℕ} 0 1 = cc in absurd (omega arith) ]
+          let z : _≡_ {A = ℕ} 0 1 = cc in absurd (omega arith)
+    ]
 
 -- the newest entry of an environment, and the one with d newer ones
 

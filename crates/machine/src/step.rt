@@ -5,13 +5,17 @@ ghost use Rattle.machine.specs.Machine.{perform, step};
 ghost use Rattle.machine.specs.Seen.{seen, after, statusOf, between, stateOf};
 ghost use Rattle.machine.specs.State.Moved.{moved};
 use crate::state::Machine;
-use crate::tables::{Bound, Said, Status};
+use crate::tables::Bound;
+use crate::tables::Said;
+use crate::tables::Status;
 use ports::feed::Feed;
 use ports::strip::Strip;
-use vocabulary::code::{Instruction, Word};
+use vocabulary::code::Instruction;
+use vocabulary::code::Word;
 use vocabulary::end::End;
 use vocabulary::table::fetch;
-use vocabulary::value::{Plain, Value};
+use vocabulary::value::Plain;
+use vocabulary::value::Value;
 
 fn status(said: Said, node: u16) -> Status
     ensures { λ r. ⌜ r ≡ statusOf said node ⌝ }
@@ -25,7 +29,12 @@ fn status(said: Said, node: u16) -> Status
 
 impl Machine {
     // One instruction.
-    fn perform<F: Feed, S: Strip>(&mut self, instruction: Instruction, feed: &mut F, strip: &mut S) -> Said
+    fn perform<F: Feed, S: Strip>(
+        &mut self,
+        instruction: Instruction,
+        feed: &mut F,
+        strip: &mut S,
+    ) -> Said
         ensures comes { λ r. ⌜ moved (after r (seen (now (self .exit)))) (between F·Feed S·Strip (now (feed .exit)) (now (strip .exit))) ≡ perform (rules (S·Strip .price)) instruction (seen (now (self .entry))) (between F·Feed S·Strip (now (feed .entry)) (now (strip .entry))) ⌝ }
         ensures kept { λ _. ⌜ S·Strip .keeps (now (strip .entry)) (now (strip .exit)) ⌝ }
     {

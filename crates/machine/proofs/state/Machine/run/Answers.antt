@@ -15,9 +15,10 @@ returns-in-Halted g c =
     }
 
 pub loop-done-again : need.loop-done-again
-loop-done-again g c =
-    ( left-on _ _ (c .args .fuel) (c .loop-done .done) _ _ _ _ (c .step-status .result) (c .loop-done-test .taken) refl (c .loop-done .inv .0) (c .step-status .ensures .stepped) (c .in-Running .is)
-    , g .S·Strip .goes _ _ _ (c .loop-done .inv .1) (c .step-status .ensures .kept))
+loop-done-again g c = (
+  left-on _ _ (c .args .fuel) (c .loop-done .done) _ _ _ _ (c .step-status .result) (c .loop-done-test .taken) refl (c .loop-done .inv .0) (c .step-status .ensures .stepped) (c .in-Running .is),
+  g .S·Strip .goes _ _ _ (c .loop-done .inv .1) (c .step-status .ensures .kept),
+)
 
 pub returns : need.returns
 returns g c =

@@ -10,6 +10,6 @@ Inv-loop-done g l =
     let f = g .F·Feed in
     let s = g .S·Strip in
     Left (rules (s .price)) (l .code) (l .fuel) (l .done)
-      (stateOf f s Running (l .entry .self) (l .entry .feed) (l .entry .strip))
-      (stateOf f s Running (l .self) (l .feed) (l .strip))
+    (stateOf f s Running (l .entry .self) (l .entry .feed) (l .entry .strip))
+    (stateOf f s Running (l .self) (l .feed) (l .strip))
     × s .keeps (l .entry .strip) (l .strip)
