@@ -19,9 +19,12 @@ impl Machine {
     pub(crate) fn look(&mut self, newer: u16) -> Said
         ensures { λ r. ⌜ after r (seen (now (self .exit))) ≡ look 512 (found (seen (now (self .entry)) .environment) newer) (seen (now (self .entry))) ⌝ }
     {
-        match find(&self.entries, self.bound, self.env, newer) {
-            Some(Entry { what: Bound::Holds(value), .. }) => self.push(value),
-            _ => Said::Stuck,
+        let Some(entry) = find(&self.entries, self.bound, self.env, newer) else {
+            return Said::Stuck;
+        };
+        match entry.what {
+            Bound::Holds(value) => self.push(value),
+            Bound::Body(_) => Said::Stuck,
         }
     }
 
