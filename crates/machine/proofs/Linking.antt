@@ -1,25 +1,24 @@
+-- Environments and dump read off the tables stay the same lists where the tables grow or are given back, since each entry's
+-- environment is older than the entry (`linked`) and each frame's is among the bindings in use with it (`nested`).
 use mathlib.Core.Path.{_≡_, refl, ap, sym, _∙_, subst}
-use mathlib.Core.Logic.{_⊎_, inl, inr}
+use mathlib.Core.Logic.{inl, inr}
 use mathlib.Core.List.{List, [], _∷_, _++_, reverse}
-use mathlib.Core.Bool.{Bool, true, false, cond, _&&_}
+use mathlib.Core.Bool.{true, false, cond, _&&_}
 use Prim.Native.Nat.{ℕ, zero, suc, _+_, _-_, _≤_, _<_}
 use native.Mathlib.Omega.{arith}
 use native.Mathlib.Nat.{not-suc-le-zero, le-of-suc-le-suc}
 use lib.Dec.{leb, eqb}
 use lib.ListN.{length, drop}
 use Rattle.std.proofs.shelf.Lists.{length-drop, reverse-append, length-reverse}
-use Rattle.std.proofs.shelf.Tests.{leb-true, le-leb, eq-eqb, ne-eqb, and-parts, cases-order}
+use Rattle.std.proofs.shelf.Tests.{leb-true, le-leb, eq-eqb, ne-eqb, and-parts, and-from, cases-order}
+use Rattle.vocabulary.proofs.Tabled.{found-none}
 use Rattle.vocabulary.specs.Tables.{found, oldest}
 use Rattle.std.specs.declared.option.Option.{Option}
 use Rattle.std.specs.declared.option.Option.the-variants.{Some, None}
-use Rattle.machine.specs.declared.tables.Bound.{Bound}
 use Rattle.machine.specs.declared.tables.Entry.{Entry}
 use Rattle.machine.specs.declared.tables.Frame.{Frame}
 use Rattle.machine.specs.State.Dump.{frame}
 use Rattle.machine.specs.Links.{chain, chains, linked, nested, Opened, Found}
-
-both : (a b : Bool) → a ≡ true → b ≡ true → (a && b) ≡ true
-both a b p q = rw (p, q)
 
 -- environments
 
@@ -60,7 +59,7 @@ linked-drop (suc k) (c ∷ t) h = linked-drop k t (and-parts (leb (c .below) (le
 
 pub linked-new : (c : Entry) (t : List Entry) → c .below ≤ length t → linked t ≡ true → linked (c ∷ t) ≡ true
 unfolding linked
-linked-new c t h l = both (leb (c .below) (length t)) (linked t) (le-leb (c .below) (length t) h) l
+linked-new c t h l = and-from (leb (c .below) (length t)) (linked t) (le-leb (c .below) (length t) h) l
 
 linked-below : (c : Entry) (t : List Entry) → linked (c ∷ t) ≡ true → c .below ≤ length t
 unfolding linked
@@ -86,14 +85,14 @@ nested-on n m e d [] h k l = le-leb d m k
 nested-on n m e d (f ∷ fs) h k l =
     let q = nested-leave n e f fs l in
     let b : f .bound ≤ m = omega (arith, q .0) in
-    both (leb d m) (leb (f .bound) m && nested (f .bound) (f .env) fs) (le-leb d m k)
-    (both (leb (f .bound) m) (nested (f .bound) (f .env) fs) (le-leb (f .bound) m b) (q .1))
+    and-from (leb d m) (leb (f .bound) m && nested (f .bound) (f .env) fs) (le-leb d m k)
+    (and-from (leb (f .bound) m) (nested (f .bound) (f .env) fs) (le-leb (f .bound) m b) (q .1))
 
 pub nested-enter : (n d : ℕ) (f : Frame) (fs : List Frame) → f .bound ≤ n → d ≤ n → nested (f .bound) (f .env) fs ≡ true → nested n d (f ∷ fs) ≡ true
 unfolding nested
 nested-enter n d f fs b k l =
-    both (leb d n) (leb (f .bound) n && nested (f .bound) (f .env) fs) (le-leb d n k)
-    (both (leb (f .bound) n) (nested (f .bound) (f .env) fs) (le-leb (f .bound) n b) l)
+    and-from (leb d n) (leb (f .bound) n && nested (f .bound) (f .env) fs) (le-leb d n k)
+    (and-from (leb (f .bound) n) (nested (f .bound) (f .env) fs) (le-leb (f .bound) n b) l)
 
 pub chains-drop : (k : ℕ) (t : List Entry) (n e : ℕ) (fs : List Frame) → n ≤ length (drop k t) → nested n e fs ≡ true → chains (drop k t) fs ≡ chains t fs
 unfolding chains
@@ -120,11 +119,6 @@ found-left (x ∷ xs) ys (suc k) h = found-left xs ys k (le-of-suc-le-suc h)
 found-at : {X : Type 0} (xs : List X) (y : X) → found (xs ++ (y ∷ [])) (length xs) ≡ Some y
 found-at [] y = refl
 found-at (x ∷ xs) y = found-at xs y
-
-found-past : {X : Type 0} (xs : List X) (k : ℕ) → length xs ≤ k → found xs k ≡ None
-found-past [] k h = refl
-found-past (x ∷ xs) zero h = absurd (not-suc-le-zero h)
-found-past (x ∷ xs) (suc k) h = found-past xs k (le-of-suc-le-suc h)
 
 found-within : {X : Type 0} (xs : List X) (k : ℕ) → None ≡ found xs k → length xs ≤ k
 found-within [] k h = omega arith
@@ -159,10 +153,11 @@ opened (c ∷ t) k x l h =
           opened-past c t (suc k) x lt (opened t k x (and-parts (leb (c .below) (length t)) (linked t) l .1) (f ∙ g))
       | inr (inr gt) ↦
           let ll : length (reverse t ++ (c ∷ [])) ≡ suc (length t) = sym (ap length rev) ∙ length-reverse (c ∷ t) in
-          let g : found (reverse t ++ (c ∷ [])) k ≡ None = found-past (reverse t ++ (c ∷ [])) k (omega arith) in
-          let z : _≡_ {A = ℕ} 0 1 = cc in absurd (omega arith) ]
+          let g : found (reverse t ++ (c ∷ [])) k ≡ None = found-none (reverse t ++ (c ∷ [])) k (omega arith) in
+          let z : _≡_ {A = ℕ} 0 1 = cc in absurd (omega arith)
+    ]
 
--- what the calls need
+-- the newest entry of an environment, and the one with d newer ones
 
 pub entry-none : (t : List Entry) (e : ℕ) → e ≡ 0 → chain t e ≡ []
 entry-none t e h = ap (chain t) h ∙ chain-none t
@@ -200,7 +195,7 @@ pub record Grown (t u : List Entry) (fs : List Frame) (c : Entry) (k : ℕ) : Ty
   pub links : linked u ≡ true
   pub nests : nested (length u) k fs ≡ true
   pub counts : length u ≡ suc (length t)
-  pub scope : chain u k ≡ c .what ∷ chain t (c .below)
+  pub environment : chain u k ≡ c .what ∷ chain t (c .below)
   pub dumps : chains u fs ≡ chains t fs
 
 pub grown : (t u : List Entry) (fs : List Frame) (c : Entry) (k : ℕ) → u ≡ c ∷ t → k ≡ length u → linked t ≡ true → nested (length t) (c .below) fs ≡ true → Grown t u fs c k
@@ -210,7 +205,7 @@ grown t u fs c k q z l h =
       links = linked-new c t i l;
       nests = nested-on (length t) (suc (length t)) (c .below) (suc (length t)) fs (omega arith) (omega arith) h;
       counts = refl;
-      scope = chain-new c t (suc (length t)) refl;
+      environment = chain-new c t (suc (length t)) refl;
       dumps = sym (chains-drop 1 (c ∷ t) (length t) (c .below) fs (omega arith) h);
     } in
     let s : Grown t u fs c (length u) = subst (λ v. Grown t v fs c (length v)) (sym q) g in

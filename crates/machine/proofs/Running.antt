@@ -1,8 +1,9 @@
+-- A run by its steps: what is left to do from where it has come, and what it comes to when the fuel is spent or the machine stops.
 use mathlib.Core.Logic.{_⊎_, inl, inr}
 use Rattle.vocabulary.specs.declared.end.End.{End}
 use mathlib.Core.Path.{_≡_, refl, ap, sym, _∙_, subst}
 use mathlib.Core.List.{List}
-use Prim.Native.Nat.{ℕ, zero, suc, _+_, _-_, _≤_, _<_}
+use Prim.Native.Nat.{ℕ, zero, suc, _+_, _-_, _<_}
 use native.Mathlib.Omega.{arith}
 use Rattle.machine.specs.declared.tables.Status.{Status}
 use Rattle.machine.specs.declared.tables.Status.the-variants.{Running, Halted, Broken}
@@ -37,17 +38,17 @@ module _ (R : Rules) (code : List Word) where
       let z : n - 0 ≡ n = omega arith in
       record { comes = ap (λ k. iterate R code k a) z; counts = (let t = ap (λ k. taken R code k a) z in omega arith) }
 
-  pub left-less : (n d : ℕ) (a : State) (c c′ : Core) (w w′ : Ports) (r : Status) → d < n → Left R code n d a (running (joined c w)) → stands r c′ w′ ≡ step R code (running (joined c w)) → Left R code n (d + 1) a (stands r c′ w′)
+  pub left-less : (n d : ℕ) (a b b′ : State) → d < n → counted b ≡ 1 → Left R code n d a b → b′ ≡ step R code b → Left R code n (d + 1) a b′
   unfolding taken
-  left-less n d a c c′ w w′ r h l s =
+  left-less n d a b b′ h o l s =
       let z : n - d ≡ suc (n - (d + 1)) = omega arith in
-      let i : iterate R code (n - d) (running (joined c w)) ≡ iterate R code (n - (d + 1)) (stands r c′ w′) = ap (λ k. iterate R code k (running (joined c w))) z ∙ ap (iterate R code (n - (d + 1))) (sym s) in
-      let t : taken R code (n - d) (running (joined c w)) ≡ 1 + taken R code (n - (d + 1)) (stands r c′ w′) = ap (λ k. taken R code k (running (joined c w))) z ∙ ap (λ q. 1 + taken R code (n - (d + 1)) q) (sym s) in
+      let i : iterate R code (n - d) b ≡ iterate R code (n - (d + 1)) b′ = ap (λ k. iterate R code k b) z ∙ ap (iterate R code (n - (d + 1))) (sym s) in
+      let t : taken R code (n - d) b ≡ counted b + taken R code (n - (d + 1)) b′ = ap (λ k. taken R code k b) z ∙ ap (λ q. counted b + taken R code (n - (d + 1)) q) (sym s) in
       let u = l .counts in
       record { comes = sym i ∙ l .comes; counts = omega arith }
 
-  pub left-on : (n d : ℕ) (a : State) (c c′ : Core) (w w′ : Ports) (r : Status) → d < n → Left R code n d a (running (joined c w)) → stands r c′ w′ ≡ step R code (running (joined c w)) → r ≡ Running → Left R code n (d + 1) a (running (joined c′ w′))
-  left-on n d a c c′ w w′ r h l s q = subst (λ z. Left R code n (d + 1) a (stands z c′ w′)) q (left-less n d a c c′ w w′ r h l s)
+  pub left-on : (n d : ℕ) (a b : State) (k : Core) (w : Ports) (r : Status) → d < n → counted b ≡ 1 → Left R code n d a b → stands r k w ≡ step R code b → r ≡ Running → Left R code n (d + 1) a (running (joined k w))
+  left-on n d a b k w r h o l s q = left-less n d a b (running (joined k w)) h o l (subst (λ z. stands z k w ≡ step R code b) q s)
 
   pub left-none : (n d : ℕ) (a b : State) → d ≡ n → Left R code n d a b → (b ≡ iterate R code n a) × (n ≡ taken R code n a)
   unfolding taken

@@ -1,14 +1,15 @@
--- What the machine of lists does where the tables' links change.
+-- What the machine of lists does in the instructions that change the links of the tables, said of the lists that the tables
+-- show before and after; and a step from its instruction.
 use mathlib.Core.Path.{_≡_, refl, ap, sym, _∙_, subst}
-use mathlib.Core.List.{List, [], _∷_, _++_}
+use mathlib.Core.List.{List, [], _∷_}
 use mathlib.Core.Bool.{Bool, true, false}
 use Prim.Native.Nat.{ℕ, suc, _≤_, _<_}
 use native.Mathlib.Omega.{arith}
 use lib.Dec.{ltb}
-use lib.ListN.{length, take, drop}
+use lib.ListN.{length, take}
 use Rattle.std.proofs.shelf.Tests.{lt-ltb, le-ltb}
 use Rattle.vocabulary.specs.Tables.{found, Pushed}
-use Rattle.std.specs.declared.option.Option.the-variants.{Some, None}
+use Rattle.std.specs.declared.option.Option.the-variants.{Some}
 use Rattle.vocabulary.specs.declared.value.Plain.{Plain}
 use Rattle.vocabulary.specs.declared.value.Value.{Value}
 use Rattle.machine.specs.declared.tables.Bound.{Bound}
@@ -18,7 +19,7 @@ use Rattle.machine.specs.declared.tables.Frame.{Frame}
 use Rattle.vocabulary.specs.World.{Rules}
 use Rattle.machine.specs.Instructions.{bindAs, enter, leave, ret, call, goto}
 use Rattle.machine.specs.Machine.{perform, obey, step}
-use Rattle.machine.specs.State.{Dump, Core, core, Ports, noted, joined}
+use Rattle.machine.specs.State.{Dump, Core, core, Turn, Ports, noted, joined}
 use Rattle.machine.specs.State.Moved.{moved}
 use Rattle.machine.specs.State.State.{running}
 use Rattle.machine.specs.State.Dump.{frame}
@@ -28,21 +29,29 @@ use Rattle.machine.specs.declared.tables.Said.the-variants.{Go, Ended, Stuck}
 use Rattle.machine.specs.declared.tables.Status.{Status}
 use Rattle.vocabulary.specs.declared.code.Word.{Word}
 use Rattle.machine.specs.State.Turn.{goes, stuck}
-use Rattle.machine.specs.Links.{chain, chains, linked, nested, Found}
+use Rattle.machine.specs.Links.{chain, chains, nested, Found}
 use Rattle.machine.proofs.Linking.{Grown, Back, chains-length, chains-more, chains-none, nested-enter, nested-env}
 
-pub leave-none : (c : Core) (t : List Entry) (fs : List Frame) → fs ≡ [] → stuck ≡ leave (chains t fs) c
-leave-none c t fs h = sym (ap (λ ds. leave ds c) (chains-none t fs h))
+-- a frame is wanted where the dump has none
+pub undumped : (f : List Dump → Core → Turn) (c : Core) (t : List Entry) (fs : List Frame) → f [] c ≡ stuck → fs ≡ [] → stuck ≡ f (chains t fs) c
+undumped f c t fs n h = sym (ap (λ ds. f ds c) (chains-none t fs h) ∙ n)
 
-pub ret-none : (c : Core) (t : List Entry) (fs : List Frame) → fs ≡ [] → stuck ≡ ret (chains t fs) c
-ret-none c t fs h = sym (ap (λ ds. ret ds c) (chains-none t fs h))
+-- a frame is taken back
+pub leave-goes : (k : Core) (cells : List Plain) (t u : List Entry) (fs gs : List Frame) (f : Frame) → cells ≡ take (f .other) (k .cells) → Back t u fs gs f →
+    goes (core (k .position) (k .values) (chain u (f .env)) (length u) (chains u gs) cells) ≡ leave (chains t fs) k
+leave-goes k cells t u fs gs f p b = rw (b .shown, p)
 
+pub ret-goes : (k : Core) (t u : List Entry) (fs gs : List Frame) (f : Frame) → Back t u fs gs f →
+    goes (core (f .other) (k .values) (chain u (f .env)) (length u) (chains u gs) (k .cells)) ≡ ret (chains t fs) k
+ret-goes k t u fs gs f b = rw (b .shown)
+
+-- a binding or a frame is added; the position and the cells stay
 module _ (at : ℕ) (cells : List Plain) where
   pub bind-goes : (vals : List Value) (t u : List Entry) (fs : List Frame) (c : Entry) (k : ℕ) → length t < 512 → Grown t u fs c k →
       goes (core at vals (chain u k) (length u) (chains u fs) cells) ≡ bindAs 512 (c .what) (core at vals (chain t (c .below)) (length t) (chains t fs) cells)
   bind-goes vals t u fs c k h g =
       let l : ltb (length t) 512 ≡ true = lt-ltb (length t) 512 h in
-      rw (g .scope, g .counts, g .dumps, l)
+      rw (g .environment, g .counts, g .dumps, l)
 
   pub enter-goes : (vals : List Value) (t : List Entry) (fs gs : List Frame) (f : Frame) → length fs < 512 → gs ≡ f ∷ fs → f .bound ≡ length t → f .other ≡ length cells →
       goes (core at vals (chain t (f .env)) (length t) (chains t gs) cells) ≡ enter 512 (core at vals (chain t (f .env)) (length t) (chains t fs) cells)
@@ -55,14 +64,6 @@ module _ (at : ℕ) (cells : List Plain) where
   enter-full vals m n t fs h =
       let l : ltb (length (chains t fs)) 512 ≡ false = rw chains-length (le-ltb (length fs) 512 h) in
       rw l
-
-  pub leave-goes : (vals : List Value) (m : List Bound) (n : ℕ) (old : List Dump) (left : List Plain) (t u : List Entry) (fs gs : List Frame) (f : Frame) → left ≡ take (f .other) cells → Back t u fs gs f →
-      goes (core at vals (chain u (f .env)) (length u) (chains u gs) left) ≡ leave (chains t fs) (core at vals m n old cells)
-  leave-goes vals m n old left t u fs gs f p b = rw (b .shown, p)
-
-  pub ret-goes : (vals : List Value) (m : List Bound) (n : ℕ) (old : List Dump) (t u : List Entry) (fs gs : List Frame) (f : Frame) → Back t u fs gs f →
-      goes (core (f .other) vals (chain u (f .env)) (length u) (chains u gs) cells) ≡ ret (chains t fs) (core at vals m n old cells)
-  ret-goes vals m n old t u fs gs f b = rw (b .shown)
 
   pub call-goes : (vs ws : List Value) (v : Value) (t : List Entry) (fs gs : List Frame) (f : Frame) (d body : ℕ) (x : Entry) → x .what ≡ Body body → vs ≡ v ∷ ws → length fs < 512 → gs ≡ f ∷ fs → f .bound ≡ length t → f .other ≡ at → Found t (f .env) d (Some x) →
       bindAs 512 (Holds v) (core body ws (chain t (x .below)) (length t) (chains t gs) cells) ≡ call 512 d vs (core at vs (chain t (f .env)) (length t) (chains t fs) cells)

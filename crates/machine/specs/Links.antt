@@ -1,7 +1,7 @@
 -- What the machine's tables of entries and frames mean as lists: both stand newest first, and an environment is given by a number.
 use mathlib.Core.Path.{_≡_}
 use mathlib.Core.List.{List, [], _∷_}
-use mathlib.Core.Bool.{Bool, true, false, cond, _&&_}
+use mathlib.Core.Bool.{Bool, true, cond, _&&_}
 use Prim.Native.Nat.{ℕ, suc, _≤_}
 use lib.Dec.{leb, eqb}
 use lib.ListN.{length, drop}

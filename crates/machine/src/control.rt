@@ -4,10 +4,16 @@ ghost use Rattle.machine.specs.Seen.{seen, after};
 ghost use Rattle.machine.specs.State.Turn.{goes};
 use crate::environment::find;
 use crate::state::Machine;
-use crate::tables::{Bound, Frame, Said};
+use crate::tables::Bound;
+use crate::tables::Frame;
+use crate::tables::Said;
 use vocabulary::end::End;
-use vocabulary::table::{append, in_use, pop, truncate};
-use vocabulary::value::{Plain, Value};
+use vocabulary::table::append;
+use vocabulary::table::in_use;
+use vocabulary::table::pop;
+use vocabulary::table::truncate;
+use vocabulary::value::Plain;
+use vocabulary::value::Value;
 
 impl Machine {
     pub(crate) fn jump(&mut self, to: u16) -> Said
@@ -48,7 +54,11 @@ impl Machine {
             return Said::Stuck;
         };
         let bound = in_use(&self.entries, self.bound) as u16;
-        let frame = Frame { env: self.env, bound, other: self.position };
+        let frame = Frame {
+            env: self.env,
+            bound,
+            other: self.position,
+        };
         if append(&mut self.frames, &mut self.depth, frame) {
             self.env = closure.below;
             self.position = body as usize;

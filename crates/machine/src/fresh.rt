@@ -2,8 +2,11 @@ ghost use mathlib.Core.Path.{_≡_};
 ghost use Rattle.machine.specs.Machine.{blank};
 ghost use Rattle.machine.specs.Seen.{seen};
 use crate::state::Machine;
-use crate::tables::{Bound, Entry, Frame};
-use vocabulary::value::{Plain, Value};
+use crate::tables::Bound;
+use crate::tables::Entry;
+use crate::tables::Frame;
+use vocabulary::value::Plain;
+use vocabulary::value::Value;
 
 impl Machine {
     // Nothing on any table, at position 0.
@@ -11,8 +14,15 @@ impl Machine {
         ensures { λ r. ⌜ seen r ≡ blank ⌝ }
     {
         let value = Value::Plain(Plain::Truth(false));
-        let entry = Entry { what: Bound::Holds(value), below: 0 };
-        let frame = Frame { env: 0, bound: 0, other: 0 };
+        let entry = Entry {
+            what: Bound::Holds(value),
+            below: 0,
+        };
+        let frame = Frame {
+            env: 0,
+            bound: 0,
+            other: 0,
+        };
         Machine {
             values: [value; 512],
             height: 0,

@@ -6,11 +6,14 @@ ghost use Rattle.machine.specs.State.Spent.{spent};
 use crate::state::Machine;
 use crate::tables::Said;
 use ports::feed::Feed;
-use ports::strip::{Placed, Strip};
-use vocabulary::end::{End, EndFromFault};
+use ports::strip::Placed;
+use ports::strip::Strip;
+use vocabulary::end::End;
+use vocabulary::end::EndFromFault;
 use vocabulary::item::Item;
 use vocabulary::table::pop;
-use vocabulary::value::{Plain, Value};
+use vocabulary::value::Plain;
+use vocabulary::value::Value;
 
 impl Machine {
     // Pushes a reading; a fault is carried whole into the end.

@@ -4,8 +4,14 @@ ghost use Rattle.machine.specs.Instructions.{bindAs, look, bind, new, enter, l
 ghost use Rattle.machine.specs.Seen.{seen, after};
 use crate::environment::find;
 use crate::state::Machine;
-use crate::tables::{Bound, Entry, Frame, Said};
-use vocabulary::table::{append, in_use, pop, truncate};
+use crate::tables::Bound;
+use crate::tables::Entry;
+use crate::tables::Frame;
+use crate::tables::Said;
+use vocabulary::table::append;
+use vocabulary::table::in_use;
+use vocabulary::table::pop;
+use vocabulary::table::truncate;
 use vocabulary::value::Value;
 
 impl Machine {
@@ -13,9 +19,12 @@ impl Machine {
     pub(crate) fn look(&mut self, newer: u16) -> Said
         ensures { λ r. ⌜ after r (seen (now (self .exit))) ≡ look 512 (found (seen (now (self .entry)) .environment) newer) (seen (now (self .entry))) ⌝ }
     {
-        match find(&self.entries, self.bound, self.env, newer) {
-            Some(Entry { what: Bound::Holds(value), below: _ }) => self.push(value),
-            _ => Said::Stuck,
+        let Some(entry) = find(&self.entries, self.bound, self.env, newer) else {
+            return Said::Stuck;
+        };
+        match entry.what {
+            Bound::Holds(value) => self.push(value),
+            Bound::Body(_) => Said::Stuck,
         }
     }
 
@@ -23,7 +32,10 @@ impl Machine {
     pub(crate) fn bind_as(&mut self, what: Bound) -> Said
         ensures { λ r. ⌜ after r (seen (now (self .exit))) ≡ bindAs 512 what (seen (now (self .entry))) ⌝ }
     {
-        let entry = Entry { what, below: self.env };
+        let entry = Entry {
+            what,
+            below: self.env,
+        };
         if append(&mut self.entries, &mut self.bound, entry) {
             self.env = in_use(&self.entries, self.bound) as u16;
             Said::Go
@@ -63,8 +75,16 @@ impl Machine {
     {
         let bound = in_use(&self.entries, self.bound) as u16;
         let other = in_use(&self.cells, self.used);
-        let frame = Frame { env: self.env, bound, other };
-        if append(&mut self.frames, &mut self.depth, frame) { Said::Go } else { Said::Stuck }
+        let frame = Frame {
+            env: self.env,
+            bound,
+            other,
+        };
+        if append(&mut self.frames, &mut self.depth, frame) {
+            Said::Go
+        } else {
+            Said::Stuck
+        }
     }
 
     // Ends a block: gives back the bindings and cells made since.

@@ -7,8 +7,14 @@ use crate::tables::Said;
 use vocabulary::code::Operation;
 use vocabulary::end::End;
 use vocabulary::number::operate;
-use vocabulary::table::{append, get, pop, push_back, put, top};
-use vocabulary::value::{Plain, Value};
+use vocabulary::table::append;
+use vocabulary::table::get;
+use vocabulary::table::pop;
+use vocabulary::table::push_back;
+use vocabulary::table::put;
+use vocabulary::table::top;
+use vocabulary::value::Plain;
+use vocabulary::value::Value;
 
 impl Machine {
     pub(crate) fn push(&mut self, value: Value) -> Said

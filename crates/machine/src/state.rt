@@ -4,8 +4,10 @@ ghost use Prim.Native.Nat.{_≤_};
 ghost use lib.ListN.{length};
 ghost use Rattle.vocabulary.specs.Tables.{stack};
 ghost use Rattle.machine.specs.Links.{linked, nested};
-use crate::tables::{Entry, Frame};
-use vocabulary::value::{Plain, Value};
+use crate::tables::Entry;
+use crate::tables::Frame;
+use vocabulary::value::Plain;
+use vocabulary::value::Value;
 
 // Four tables of 512 places, each with the number of those in use; the number of the present environment; and the position
 // of the next word. What it means as lists is `seen` of specs/Seen.antt.

@@ -1,18 +1,21 @@
 ghost use mathlib.Core.Path.{_≡_};
 ghost use Rattle.vocabulary.specs.World.{rules};
+ghost use Rattle.machine.specs.declared.tables.Status.the-variants.{Running};
 ghost use Rattle.machine.specs.Machine.{perform, step};
-ghost use Rattle.machine.specs.Seen.{seen, after, stands, statusOf};
-ghost use Rattle.machine.specs.State.{ports, joined};
+ghost use Rattle.machine.specs.Seen.{seen, after, statusOf, between, stateOf};
 ghost use Rattle.machine.specs.State.Moved.{moved};
-ghost use Rattle.machine.specs.State.State.{running};
 use crate::state::Machine;
-use crate::tables::{Bound, Said, Status};
+use crate::tables::Bound;
+use crate::tables::Said;
+use crate::tables::Status;
 use ports::feed::Feed;
 use ports::strip::Strip;
-use vocabulary::code::{Instruction, Word};
+use vocabulary::code::Instruction;
+use vocabulary::code::Word;
 use vocabulary::end::End;
 use vocabulary::table::fetch;
-use vocabulary::value::{Plain, Value};
+use vocabulary::value::Plain;
+use vocabulary::value::Value;
 
 fn status(said: Said, node: u16) -> Status
     ensures { λ r. ⌜ r ≡ statusOf said node ⌝ }
@@ -26,8 +29,13 @@ fn status(said: Said, node: u16) -> Status
 
 impl Machine {
     // One instruction.
-    fn perform<F: Feed, S: Strip>(&mut self, instruction: Instruction, feed: &mut F, strip: &mut S) -> Said
-        ensures comes { λ r. ⌜ moved (after r (seen (now (self .exit)))) (ports (F·Feed .waiting (now (feed .exit))) (S·Strip .held (now (strip .exit))) (S·Strip .space (now (strip .exit)))) ≡ perform (rules (S·Strip .price)) instruction (seen (now (self .entry))) (ports (F·Feed .waiting (now (feed .entry))) (S·Strip .held (now (strip .entry))) (S·Strip .space (now (strip .entry)))) ⌝ }
+    fn perform<F: Feed, S: Strip>(
+        &mut self,
+        instruction: Instruction,
+        feed: &mut F,
+        strip: &mut S,
+    ) -> Said
+        ensures comes { λ r. ⌜ moved (after r (seen (now (self .exit)))) (between F·Feed S·Strip (now (feed .exit)) (now (strip .exit))) ≡ perform (rules (S·Strip .price)) instruction (seen (now (self .entry))) (between F·Feed S·Strip (now (feed .entry)) (now (strip .entry))) ⌝ }
         ensures kept { λ _. ⌜ S·Strip .keeps (now (strip .entry)) (now (strip .exit)) ⌝ }
     {
         match instruction {
@@ -55,7 +63,7 @@ impl Machine {
 
     // The word at the position, its instruction carried out with the position already the next.
     pub fn step<F: Feed, S: Strip>(&mut self, code: &[Word], feed: &mut F, strip: &mut S) -> Status
-        ensures stepped { λ r. ⌜ stands r (seen (now (self .exit))) (ports (F·Feed .waiting (now (feed .exit))) (S·Strip .held (now (strip .exit))) (S·Strip .space (now (strip .exit)))) ≡ step (rules (S·Strip .price)) (now (code .entry)) (running (joined (seen (now (self .entry))) (ports (F·Feed .waiting (now (feed .entry))) (S·Strip .held (now (strip .entry))) (S·Strip .space (now (strip .entry)))))) ⌝ }
+        ensures stepped { λ r. ⌜ stateOf F·Feed S·Strip r (now (self .exit)) (now (feed .exit)) (now (strip .exit)) ≡ step (rules (S·Strip .price)) (now (code .entry)) (stateOf F·Feed S·Strip Running (now (self .entry)) (now (feed .entry)) (now (strip .entry))) ⌝ }
         ensures kept { λ _. ⌜ S·Strip .keeps (now (strip .entry)) (now (strip .exit)) ⌝ }
     {
         let Some(word) = fetch(code, self.position) else {

@@ -22,7 +22,7 @@ fn quotient(left: i32, right: i32) -> Result<Plain, End>
         return Err(End::ZeroDivisor);
     }
     match left.checked_div(right) {
-        Some(number) => Ok(Plain::Number(number)),
+        Some(quotient) => Ok(Plain::Number(quotient)),
         None => Err(End::Overflow),
     }
 }

@@ -1,5 +1,4 @@
 use borrow.Author.Needs.{needs}
-use mathlib.Core.Path.{refl}
 use Rattle.machine.proofs.Turning.{entered, enter-goes, enter-full}
 use Rattle.machine.proofs.state.Machine.enter.Needs as need
 

@@ -1,4 +1,3 @@
-use borrow.Author.Needs.{needs}
 use native.Mathlib.Numerals.{add-one}
 use Rattle.machine.specs.Seen.{seen}
 use Rattle.machine.proofs.Turning.{step-goes}
