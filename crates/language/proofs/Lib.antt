@@ -1,0 +1,5 @@
+pub mod ByKind
+pub mod Trees
+pub mod Fielded
+pub mod Upward
+pub mod Filling
