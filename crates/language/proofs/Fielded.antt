@@ -6,16 +6,17 @@ use mathlib.Core.Logic.{⊎-elim}
 use Prim.Native.Nat.{ℕ, zero, suc, _+_, _≤_, _<_}
 use native.Mathlib.Omega.{arith}
 use native.Mathlib.Numerals.{add-one}
+use lib.Dec.{ltb}
 use Rattle.std.specs.declared.option.Option.{Option}
 use Rattle.std.specs.declared.option.Option.the-variants.{Some, None}
-use Rattle.std.proofs.shelf.Tests.{and-left, and-right, and-from}
+use Rattle.std.proofs.shelf.Tests.{and-left, and-right, and-from, and-parts, ltb-true, lt-ltb}
 use Rattle.std.proofs.shelf.Ways.{tells}
 use Rattle.vocabulary.specs.declared.node.Node.{Node}
 use Rattle.language.specs.declared.kind.Rule.{Rule}
 use Rattle.language.specs.declared.kind.Rule.the-variants.{Unused, Name, Truth, Operator, Half, Child}
 use Rattle.language.specs.declared.kind.Fields.{Fields}
 use Rattle.language.specs.Fields.{ChildField, fieldsOf, admits, admitsAll, formed, childIn, childrenBy, children}
-use Rattle.language.specs.Table.{at, hit, times, childrenIn}
+use Rattle.language.specs.Table.{at, lower, hit, times, childrenIn}
 
 -- a node is formed where its tag keeps its rule and the other fields do
 abbrev pub tagKept : Option Fields → Node → Bool
@@ -60,6 +61,20 @@ module _ (p : ChildField → Bool) (all : List ChildField → Bool) (none : all 
   all-fields d f e =
       ap (λ (o : Option Fields). all (childrenBy o d)) e ∙ all-++ (childIn (f .a) (d .a) ++ childIn (f .b) (d .b)) (childIn (f .c) (d .c))
       ∙ ap (λ (b : Bool). b && all (childIn (f .c) (d .c))) (all-++ (childIn (f .a) (d .a)) (childIn (f .b) (d .b)))
+
+pub lower-fields : (m : ℕ) (d : Node) (f : Fields) → fieldsOf (d .kind) ≡ Some f → lower m (children d) ≡ true
+  → (lower m (childIn (f .a) (d .a)) ≡ true) × (lower m (childIn (f .b) (d .b)) ≡ true) × (lower m (childIn (f .c) (d .c)) ≡ true)
+lower-fields m d f e h =
+    let p = and-parts _ _ (sym (all-fields (λ k. ltb (k .number) m) (lower m) refl (λ _ _. refl) d f e) ∙ h) in
+    let q = and-parts _ _ (p .0) in
+    (q .0, q .1, p .1)
+
+pub lower-more : (m k : ℕ) (cs : List ChildField) → m ≤ k → lower m cs ≡ true → lower k cs ≡ true
+lower-more m k [] h l = refl
+lower-more m k (c ∷ cs) h l =
+    let p = and-parts _ _ l in
+    let q = ltb-true (c .number) m (p .0) in
+    and-from _ _ (lt-ltb (c .number) k (omega arith)) (lower-more m k cs h (p .1))
 
 pub none-held : (d : Node) → fieldsOf (d .kind) ≡ None → children d ≡ []
 unfolding children

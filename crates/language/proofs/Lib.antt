@@ -3,3 +3,4 @@ pub mod Trees
 pub mod Fielded
 pub mod Upward
 pub mod Filling
+pub mod Shape
