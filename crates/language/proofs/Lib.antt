@@ -1,0 +1,6 @@
+pub mod ByKind
+pub mod Trees
+pub mod Fielded
+pub mod Upward
+pub mod Filling
+pub mod Shape
