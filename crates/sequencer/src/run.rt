@@ -1,7 +1,7 @@
 ghost use mathlib.Core.Path.{_≡_};
 ghost use Rattle.vocabulary.specs.Refusals.{refusal};
 ghost use Rattle.vocabulary.specs.World.{rules};
-ghost use Rattle.machine.specs.State.{ports};
+ghost use Rattle.machine.specs.Seen.{between};
 ghost use Rattle.sequencer.specs.Calls.{RunAnswer, Stepped, told, reportAnswer, runVerdict, goesOn};
 ghost use Rattle.std.specs.declared.result.Result.the-variants.{Ok};
 ghost use Rattle.sequencer.specs.Model.{model};
@@ -58,7 +58,7 @@ impl Sequencer {
     // The steps of an accepted run.
     fn go_on<F: Feed, S: Strip>(&mut self, fuel: u32, feed: &mut F, strip: &mut S) -> Report
         requires { ⌜ runVerdict (model (now self)) fuel ≡ Ok tt ⌝ }
-        ensures ran { λ _. ⌜ Stepped (rules (S·Strip .price)) fuel (model (now (self .entry))) (model (now (self .exit))) (ports (F·Feed .waiting (now (feed .entry))) (S·Strip .held (now (strip .entry))) (S·Strip .space (now (strip .entry)))) (ports (F·Feed .waiting (now (feed .exit))) (S·Strip .held (now (strip .exit))) (S·Strip .space (now (strip .exit)))) ⌝ }
+        ensures ran { λ _. ⌜ Stepped (rules (S·Strip .price)) fuel (model (now (self .entry))) (model (now (self .exit))) (between F·Feed S·Strip (now (feed .entry)) (now (strip .entry))) (between F·Feed S·Strip (now (feed .exit)) (now (strip .exit))) ⌝ }
         ensures told { λ r. ⌜ r ≡ told (model (now (self .exit))) ⌝ }
         ensures kept { λ _. ⌜ S·Strip .keeps (now (strip .entry)) (now (strip .exit)) ⌝ }
     {
@@ -74,7 +74,7 @@ impl Sequencer {
 
     // Grants fuel to the take, and steps until the fuel or the take is over.
     pub fn run<F: Feed, S: Strip>(&mut self, fuel: u32, feed: &mut F, strip: &mut S) -> Result<Report, Refusal>
-        ensures answer { λ r. ⌜ RunAnswer (rules (S·Strip .price)) fuel (now (self .entry)) (now (self .exit)) (ports (F·Feed .waiting (now (feed .entry))) (S·Strip .held (now (strip .entry))) (S·Strip .space (now (strip .entry)))) (ports (F·Feed .waiting (now (feed .exit))) (S·Strip .held (now (strip .exit))) (S·Strip .space (now (strip .exit)))) r ⌝ }
+        ensures answer { λ r. ⌜ RunAnswer (rules (S·Strip .price)) fuel (now (self .entry)) (now (self .exit)) (between F·Feed S·Strip (now (feed .entry)) (now (strip .entry))) (between F·Feed S·Strip (now (feed .exit)) (now (strip .exit))) r ⌝ }
         ensures kept { λ _. ⌜ S·Strip .keeps (now (strip .entry)) (now (strip .exit)) ⌝ }
     {
         match self.check_run(fuel) {
