@@ -1,6 +1,6 @@
 use mathlib.Core.Path.{_≡_, _∙_, ap}
 use mathlib.Core.List.{List, _++_}
-use Prim.Native.Nat.{_*_, _-_}
+use Prim.Native.Nat.{ℕ, _+_, _*_, _-_}
 use lib.ListN.{length, drop}
 use borrow.Rule.Slice.PartMut.{putMid}
 use native.Mathlib.Omega.{arith}
@@ -13,5 +13,5 @@ returns c =
     let M = c .args .memory .now in
     let n = length (c .args .code .now) in
     let a = c .args .half .«code_at» in
-    completed M (codeBytes (c .args .code .now)) _ (c .write-header .last .memory) (c .write-entries .last .tail) a (8 * n) (c .pre .start) (c .pre .room) (c .write-entries .ensures)
-      (c .write-header .ensures ∙ ap (λ (h : List _). h ++ drop 16 (putMid a (length M - a) M (c .write-entries .last .tail))) (c .header-bytes .ensures))
+    completed M (codeBytes (c .args .code .now)) (header (c .args .half .nodes) n a (a + 8 * n)) (c .write-header .last .memory) (c .write-entries .last .tail) a (8 * n) (c .pre .start) (c .pre .room) (c .write-entries .ensures)
+      (c .write-header .ensures ∙ ap (λ (h : List ℕ). h ++ drop 16 (putMid a (length M - a) M (c .write-entries .last .tail))) (c .header-bytes .ensures))
