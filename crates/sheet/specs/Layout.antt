@@ -13,6 +13,9 @@ pub record Program : Type 0 where
   pub nodes : List Node
   pub code : List Word
 
+abbrev pub archive : List Node → List Word → Program
+archive nodes code = record { nodes = nodes; code = code }
+
 -- 16 and 32 bits, low byte first
 abbrev pub two : ℕ → List ℕ
 two n = n % 256 ∷ n / 256 % 256 ∷ []
@@ -28,13 +31,16 @@ nodeBytes d = d .kind ∷ d .tag ∷ (two (d .a) ++ (two (d .b) ++ two (d .c)))
 abbrev pub wordBytes : Word → List ℕ
 wordBytes w = opcodeOf (w .instruction) ∷ 0 ∷ (two (w .node) ++ four (ofZ w32 (operandOf (w .instruction))))
 
+-- one after the other
+abbrev pub encoded : {X : Type 0} → (X → List ℕ) → List X → List ℕ
+encoded bytes [] = []
+encoded bytes (x ∷ xs) = bytes x ++ encoded bytes xs
+
 abbrev pub tableBytes : List Node → List ℕ
-tableBytes [] = []
-tableBytes (d ∷ ds) = nodeBytes d ++ tableBytes ds
+tableBytes ds = encoded nodeBytes ds
 
 abbrev pub codeBytes : List Word → List ℕ
-codeBytes [] = []
-codeBytes (w ∷ ws) = wordBytes w ++ codeBytes ws
+codeBytes ws = encoded wordBytes ws
 
 -- the header: 1, the count of nodes, the count of words, 16, the code's offset, the total, 0, 0
 abbrev pub header : ℕ → ℕ → ℕ → ℕ → List ℕ

@@ -1,2 +1,4 @@
 pub mod Layout
 pub mod Sheets
+pub mod Writing
+pub mod Opening

@@ -15,6 +15,7 @@ use Rattle.language.specs.Reading.{treeOf}
 use Rattle.language.specs.Table.{field, nodesOf}
 use Rattle.language.specs.Translation.{program}
 use Rattle.language.specs.Verdicts.{tableVerdict}
+use Rattle.sheet.specs.declared.half.HalfSheet.{HalfSheet}
 use Rattle.sheet.specs.Layout.{Program, offsetOf, totalOf, sizeOf, halfOf, codeBytes}
 
 -- starting a sheet in a memory of some size
@@ -22,15 +23,17 @@ abbrev pub startVerdict : Option Program → ℕ → Verdict
 startVerdict None size = Err (refusal NoProgram 0)
 startVerdict (Some p) size = unless (leb (sizeOf p) size) MemoryShort 0
 
--- whether a memory begins with the program's half sheet
-abbrev pub isHalf : Program → List ℕ → Bool
-isHalf p memory = sameBytes (take (offsetOf (length (p .nodes))) memory) (halfOf p)
+-- whether a half sheet is of the program's size, and a memory begins with the program's half
+abbrev pub isHalf : Program → HalfSheet → List ℕ → Bool
+isHalf p half memory =
+    eqb (half .nodes) (length (p .nodes)) && eqb (half .«code_at») (offsetOf (length (p .nodes)))
+      && sameBytes (take (offsetOf (length (p .nodes))) memory) (halfOf p)
 
 -- finishing the sheet in a memory
-abbrev pub finishVerdict : Option Program → List ℕ → Verdict
-finishVerdict None memory = Err (refusal NoProgram 0)
-finishVerdict (Some p) memory =
-    andOther (unless (leb (sizeOf p) (length memory)) MemoryShort 0) (unless (isHalf p memory) NotThisHalf 0)
+abbrev pub finishVerdict : Option Program → HalfSheet → List ℕ → Verdict
+finishVerdict None half memory = Err (refusal NoProgram 0)
+finishVerdict (Some p) half memory =
+    andOther (unless (leb (sizeOf p) (length memory)) MemoryShort 0) (unless (isHalf p half memory) NotThisHalf 0)
 
 -- the header's counts of nodes and words
 abbrev pub nodeCount : List ℕ → ℕ
