@@ -19,7 +19,7 @@ impl Sequencer {
         ensures { λ r. ⌜ now r ≡ nodesIn (model (now (self .entry)) .program) ⌝ }
     {
         match &self.program {
-            Some(program) => &program.nodes[0..program.count],
+            Some(program) => program.nodes(),
             None => &[],
         }
     }

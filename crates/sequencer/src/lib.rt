@@ -1,6 +1,8 @@
 // The sequencer: it holds a program and a take of it, and answers calls.
+mod accept;
+mod archive;
+mod begin;
 pub mod program;
 pub mod report;
-pub mod state;
-mod begin;
 mod run;
+pub mod state;
