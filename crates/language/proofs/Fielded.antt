@@ -62,6 +62,9 @@ module _ (p : ChildField → Bool) (all : List ChildField → Bool) (none : all 
       ap (λ (o : Option Fields). all (childrenBy o d)) e ∙ all-++ (childIn (f .a) (d .a) ++ childIn (f .b) (d .b)) (childIn (f .c) (d .c))
       ∙ ap (λ (b : Bool). b && all (childIn (f .c) (d .c))) (all-++ (childIn (f .a) (d .a)) (childIn (f .b) (d .b)))
 
+pub lower-++ : (m : ℕ) (xs ys : List ChildField) → lower m (xs ++ ys) ≡ (lower m xs && lower m ys)
+lower-++ m = all-++ (λ k. ltb (k .number) m) (lower m) refl (λ _ _. refl)
+
 pub lower-fields : (m : ℕ) (d : Node) (f : Fields) → fieldsOf (d .kind) ≡ Some f → lower m (children d) ≡ true
   → (lower m (childIn (f .a) (d .a)) ≡ true) × (lower m (childIn (f .b) (d .b)) ≡ true) × (lower m (childIn (f .c) (d .c)) ≡ true)
 lower-fields m d f e h =

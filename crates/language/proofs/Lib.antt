@@ -4,3 +4,8 @@ pub mod Fielded
 pub mod Upward
 pub mod Filling
 pub mod Shape
+pub mod Counting
+pub mod Sizes
+pub mod Lengths
+pub mod Named
+pub mod Accepted

@@ -4,3 +4,4 @@ pub mod kind;
 pub mod name;
 pub mod read;
 pub mod rules;
+pub mod theorems;
