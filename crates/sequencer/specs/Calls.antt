@@ -20,13 +20,23 @@ use Rattle.machine.specs.Seen.{stands}
 use Rattle.machine.specs.State.{Ports, State}
 use Rattle.sequencer.specs.declared.report.Report.{Report}
 use Rattle.sequencer.specs.declared.state.Sequencer.{Sequencer}
+use Rattle.language.specs.Verdicts.{tableVerdict}
+use Rattle.sheet.specs.Layout.{Program}
+use Rattle.sheet.specs.Sheets.{openVerdict, tablePart}
 use Rattle.sequencer.specs.Model.{Model, model, begun, programOf, codeOf}
 use Rattle.sequencer.specs.Reports.{reportOf}
 
--- an accepted load replaces the program and begins a take; a refused one changes nothing
+-- accepted, the program is replaced and a take of it begins; refused, nothing changes
+abbrev pub Begins : Program → Sequencer → Sequencer → Verdict → Type 0
+Begins p before after (Ok _) = model after ≡ begun p
+Begins p before after (Err e) = after ≡ before
+
+-- loading a table, and opening a sheet
 abbrev pub Loaded : List ℕ → Sequencer → Sequencer → Verdict → Type 0
-Loaded table before after (Ok _) = model after ≡ begun (programOf table)
-Loaded table before after (Err e) = after ≡ before
+Loaded table before after r = (r ≡ tableVerdict table) × Begins (programOf table) before after r
+
+abbrev pub Opened : List ℕ → Sequencer → Sequencer → Verdict → Type 0
+Opened sheet before after r = (r ≡ openVerdict sheet) × Begins (programOf (tablePart sheet)) before after r
 
 -- whether there is a program
 abbrev pub programVerdict : Model → Verdict

@@ -1,5 +1,6 @@
 ghost use mathlib.Core.Path.{_≡_};
-ghost use Rattle.sequencer.specs.Model.{model, fresh, nodesIn, codeOf};
+ghost use Rattle.sequencer.specs.Model.{model, fresh, begun, held, nodesIn, codeOf};
+use crate::program::Program;
 use crate::state::Sequencer;
 use machine::state::Machine;
 use machine::tables::Status;
@@ -12,6 +13,17 @@ impl Sequencer {
         ensures { λ r. ⌜ model r ≡ fresh ⌝ }
     {
         Sequencer { program: None, machine: Machine::new(), status: Status::Running, granted: 0, steps: 0 }
+    }
+
+    // Begins a take of a program.
+    pub(crate) fn begin(&mut self, program: Program)
+        ensures { λ _. ⌜ model (now (self .exit)) ≡ begun (held program) ⌝ }
+    {
+        self.program = Some(program);
+        self.machine.restart();
+        self.status = Status::Running;
+        self.granted = 0;
+        self.steps = 0;
     }
 
     // The nodes of the program, none where there is no program.
