@@ -42,7 +42,7 @@ module _ (earlier later : RefT (List ℕ)) (used filled : ℕ) (v : Plain) (line
         let d = length-drop filled (now earlier) in
         ap length join ∙ (omega arith)
 
-  pub line-put : (r : Placed) → Added earlier later used filled line r → Put (lineLength v) v (valuesIn (take used (now earlier))) (length (now earlier) - used) (valuesIn (take filled (now later))) (length (now later) - filled) r
+  line-put : (r : Placed) → Added earlier later used filled line r → Put (lineLength v) v (valuesIn (take used (now earlier))) (length (now earlier) - used) (valuesIn (take filled (now later))) (length (now later) - filled) r
   line-put Done a =
       let size : lineLength v ≡ length line = ap length (sym is) in
       let long = long-is (a .1) (a .3) (a .0) in
@@ -62,7 +62,7 @@ module _ (earlier later : RefT (List ℕ)) (used filled : ℕ) (v : Plain) (line
         omega arith,
       )
 
-  pub line-kept : (r : Placed) → Added earlier later used filled line r → Kept earlier later (textOf (valuesIn (take used (now earlier)))) (textOf (valuesIn (take filled (now later))))
+  line-kept : (r : Placed) → Added earlier later used filled line r → Kept earlier later (textOf (valuesIn (take used (now earlier)))) (textOf (valuesIn (take filled (now later))))
   line-kept Done a =
       let k = a .1 in
       let h = a .0 in
@@ -70,3 +70,6 @@ module _ (earlier later : RefT (List ℕ)) (used filled : ℕ) (v : Plain) (line
   line-kept Full a =
       let k = a .1 in
       kept-grown earlier later used filled _ _ (ap name (a .2)) (ap (λ x. length (now x)) (a .2)) (omega arith) (omega arith) whole after (ap (λ x. drop filled (now x)) (a .2))
+
+  pub line-placed : (r : Placed) → Added earlier later used filled line r → Put (lineLength v) v (valuesIn (take used (now earlier))) (length (now earlier) - used) (valuesIn (take filled (now later))) (length (now later) - filled) r × Kept earlier later (textOf (valuesIn (take used (now earlier)))) (textOf (valuesIn (take filled (now later))))
+  line-placed r a = (line-put r a, line-kept r a)

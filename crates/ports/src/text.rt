@@ -4,9 +4,10 @@ ghost use denote.Ref.{now as behind, name as place};
 ghost use Prim.Native.Nat.{_-_, _+_, _≤_};
 ghost use lib.ListN.{take, drop, length};
 ghost use Rattle.std.specs.Written.{decimal, signed};
+ghost use Rattle.vocabulary.specs.declared.value.Plain.the-variants.{Truth};
 ghost use Rattle.ports.specs.Kept.{Kept};
 ghost use Rattle.ports.specs.Laws.{line-costs, kept-stays, kept-goes};
-ghost use Rattle.ports.specs.Lines.{Added, Whole, lineLength, textOf, valuesIn};
+ghost use Rattle.ports.specs.Lines.{Added, Whole, lineLength, lineOf, textOf, valuesIn};
 use crate::strip::Placed;
 use crate::strip::Strip;
 use vocabulary::value::Plain;
@@ -51,6 +52,12 @@ fn number_line(number: i32, buffer: &mut [u8]) -> usize
     } else {
         at
     }
+}
+
+fn truth_line(truth: bool) -> &'static [u8]
+    ensures { λ r. ⌜ now r ≡ lineOf (Truth truth) ⌝ }
+{
+    if truth { b"true\n" } else { b"false\n" }
 }
 
 impl<'a> TextStrip<'a> {
@@ -111,13 +118,7 @@ pub impl<'a> Strip for TextStrip<'a> as TextStripStrip {
                 let at = number_line(number, &mut buffer);
                 self.add(&buffer[at..])
             }
-            Plain::Truth(truth) => {
-                if truth {
-                    self.add(b"true\n")
-                } else {
-                    self.add(b"false\n")
-                }
-            }
+            Plain::Truth(truth) => self.add(truth_line(truth)),
         }
     }
 }

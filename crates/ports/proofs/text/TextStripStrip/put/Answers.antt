@@ -1,6 +1,5 @@
 use borrow.Author.Needs.{needs}
 use mathlib.Core.Path.{_≡_, sym, ap, _∙_, subst}
-use mathlib.Core.Bool.{Bool}
 use mathlib.Core.List.{List}
 use native.Mathlib.Omega.{arith}
 use Prim.Native.Nat.{ℕ, _-_}
@@ -12,7 +11,7 @@ use Rattle.std.proofs.shelf.Lists.{take-all}
 use Rattle.std.proofs.shelf.Signed.{toZ-ofZ}
 use Rattle.vocabulary.specs.declared.value.Plain.the-variants.{Number, Truth}
 use Rattle.ports.specs.Lines.{lineOf, Whole}
-use Rattle.ports.proofs.Lined.{line-put, line-kept}
+use Rattle.ports.proofs.Lined.{line-placed}
 use Rattle.ports.proofs.Parsed.{Small, line-whole}
 use Rattle.ports.proofs.text.TextStripStrip.put.Needs as need
 
@@ -34,32 +33,16 @@ returns-in-Number c =
     let is = line-part z (c .number-line-at .result) (c .number-line-at .last .buffer) (search needs) t in
     let s = c .args .self .now in
     let o = c .add .last .self in
-    let a = c .add .ensures .added in
-    simp (c .in-Number .is) (record {
-      answer = line-put (s .bytes) (o .bytes) (s .used) (o .used) (Number z) _ is (f .sfits) (s .within) (s .whole) (o .whole) (c .add .result) a;
-      kept = line-kept (s .bytes) (o .bytes) (s .used) (o .used) (Number z) _ is (f .sfits) (s .within) (s .whole) (o .whole) (c .add .result) a;
-    })
+    let p = line-placed (s .bytes) (o .bytes) (s .used) (o .used) (Number z) _ is (f .sfits) (s .within) (s .whole) (o .whole) (c .add .result) (c .add .ensures .added) in
+    simp (c .in-Number .is) (record { answer = p .0; kept = p .1 })
 
-pub returns-then-truth : need.returns-then-truth
-returns-then-truth c =
-    let s = c .args .self .now in
-    let o = c .add-then-truth .last .self in
-    let a = c .add-then-truth .ensures .added in
-    let e = c .in-Truth .is ∙ ap Truth (c .if-truth .taken) in
-    let small : Small (c .args .value) = subst Small (sym e) tt in
-    record {
-      answer = line-put (s .bytes) (o .bytes) (s .used) (o .used) (c .args .value) _ (sym (ap lineOf e)) small (s .within) (s .whole) (o .whole) (c .add-then-truth .result) a;
-      kept = line-kept (s .bytes) (o .bytes) (s .used) (o .used) (c .args .value) _ (sym (ap lineOf e)) small (s .within) (s .whole) (o .whole) (c .add-then-truth .result) a;
-    }
+pub add-requires-in-Truth : need.add-requires-in-Truth
+add-requires-in-Truth c κs = subst Whole (sym (c .truth-line .ensures)) (line-whole (Truth (c .in-Truth .truth)) tt)
 
-pub returns-else-truth : need.returns-else-truth
-returns-else-truth c =
+pub returns-in-Truth : need.returns-in-Truth
+returns-in-Truth c =
     let s = c .args .self .now in
-    let o = c .add-else-truth .last .self in
-    let a = c .add-else-truth .ensures .added in
-    let e = c .in-Truth .is ∙ ap Truth (c .if-truth .left) in
-    let small : Small (c .args .value) = subst Small (sym e) tt in
-    record {
-      answer = line-put (s .bytes) (o .bytes) (s .used) (o .used) (c .args .value) _ (sym (ap lineOf e)) small (s .within) (s .whole) (o .whole) (c .add-else-truth .result) a;
-      kept = line-kept (s .bytes) (o .bytes) (s .used) (o .used) (c .args .value) _ (sym (ap lineOf e)) small (s .within) (s .whole) (o .whole) (c .add-else-truth .result) a;
-    }
+    let o = c .add-in-Truth .last .self in
+    let e = sym (c .in-Truth .is) in
+    let p = line-placed (s .bytes) (o .bytes) (s .used) (o .used) (c .args .value) _ (c .truth-line .ensures ∙ ap lineOf e) (subst Small e tt) (s .within) (s .whole) (o .whole) (c .add-in-Truth .result) (c .add-in-Truth .ensures .added) in
+    record { answer = p .0; kept = p .1 }
