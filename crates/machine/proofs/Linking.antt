@@ -172,14 +172,11 @@ entry-some t es e (Some x) q l ne f =
     let z : suc (e - 1) ≡ e = omega arith in
     subst (λ n. Opened t n (Some x)) z (opened t (e - 1) x l (f ∙ ap (λ ys. found ys (e - 1)) q))
 
-pub behind-none : (t : List Entry) (e d : ℕ) → Opened t e None → chain t 0 ≡ drop d (chain t e)
-behind-none t e zero o = chain-none t ∙ sym o
-behind-none t e (suc d) o = chain-none t ∙ sym (ap (drop (suc d)) o)
+pub outer-at : (t : List Entry) (e : ℕ) (x : Entry) → Opened t e (Some x) → chain t (x .below) ≡ drop 1 (chain t e)
+outer-at t e x o = sym (ap (drop 1) (o .0))
 
-pub behind-more : (t : List Entry) (e d r : ℕ) (x : Entry) → (d ≡ 0 → ⊥) → Opened t e (Some x) → chain t r ≡ drop (d - 1) (chain t (x .below)) → chain t r ≡ drop d (chain t e)
-behind-more t e d r x ne o h =
-    let z : suc (d - 1) ≡ d = omega arith in
-    h ∙ sym (ap (drop (suc (d - 1))) (o .0)) ∙ ap (λ n. drop n (chain t e)) z
+pub outer-none : (t : List Entry) (e : ℕ) → Opened t e None → chain t 0 ≡ drop 1 (chain t e)
+outer-none t e o = chain-none t ∙ sym (ap (drop 1) o)
 
 found-beyond : {X : Type 0} (xs : List X) (d : ℕ) → [] ≡ drop d xs → found xs d ≡ None
 found-beyond [] d h = refl

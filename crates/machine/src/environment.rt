@@ -19,20 +19,29 @@ fn newest(entries: &[Entry], bound: usize, env: u16) -> Option<Entry>
     get(entries, bound, env as usize - 1)
 }
 
-// The environment behind the `newer` newest entries of an environment. It answers a number and not an entry, so that a walk
-// moves no entries.
+// The environment below the newest entry of an environment; below none it is empty.
+fn outer(entries: &[Entry], bound: usize, env: u16) -> u16
+    requires fits { ⌜ bound ≤ length (now entries) ⌝ }
+    requires older { ⌜ linked (stack (now entries) bound) ≡ true ⌝ }
+    ensures { λ r. ⌜ chain (stack (now (entries .entry)) bound) r ≡ drop 1 (chain (stack (now (entries .entry)) bound) env) ⌝ }
+{
+    match newest(entries, bound, env) {
+        Some(entry) => entry.below,
+        None => 0,
+    }
+}
+
+// The environment behind the `newer` newest entries of an environment. The walk moves numbers, and no entries.
 fn behind(entries: &[Entry], bound: usize, env: u16, newer: u16) -> u16
     requires fits { ⌜ bound ≤ length (now entries) ⌝ }
     requires older { ⌜ linked (stack (now entries) bound) ≡ true ⌝ }
     ensures { λ r. ⌜ chain (stack (now (entries .entry)) bound) r ≡ drop newer (chain (stack (now (entries .entry)) bound) env) ⌝ }
 {
-    if newer == 0 {
-        return env;
+    let mut at = env;
+    for passed in 0..newer {
+        at = outer(entries, bound, at);
     }
-    let Some(entry) = newest(entries, bound, env) else {
-        return 0;
-    };
-    behind(entries, bound, entry.below, newer - 1)
+    at
 }
 
 // The entry with `newer` newer ones in its environment.
