@@ -35,7 +35,8 @@ module _ (table : List ℕ) where
         sorts = λ n l. s .keep n l .sorts;
         once = s .once;
         root = s .root;
-        names = named-C (treeOf (nodesOf table)) [] (q .1) }
+        names = named-C (treeOf (nodesOf table)) [] (q .1);
+      }
 
   pub accepted : WellFormed table → tableVerdict table ≡ Ok tt
   accepted w =

@@ -57,6 +57,7 @@ named-E (choice nd a b c) sc e = let p = both-ok _ _ e in let q = both-ok _ _ (p
 
 mutual
   unfolding namesC namesD
+
   pub named-C : (t : Command) (sc : List Entry) → namesC t sc ≡ Ok tt → NamedC t sc
   named-C (assign nd a b) sc e = let p = both-ok _ _ e in (named-E a sc (p .0), named-E b sc (p .1))
   named-C (output nd a) sc e = named-E a sc e
@@ -86,6 +87,7 @@ walked-E (choice nd a b c) sc h = ok-both _ _ (walked-E a sc (h .0)) (ok-both _ 
 
 mutual
   unfolding namesC namesD
+
   pub walked-C : (t : Command) (sc : List Entry) → NamedC t sc → namesC t sc ≡ Ok tt
   walked-C (assign nd a b) sc h = ok-both _ _ (walked-E a sc (h .0)) (walked-E b sc (h .1))
   walked-C (output nd a) sc h = walked-E a sc h

@@ -56,13 +56,14 @@ module _ (d : Node) (f : formed d ≡ true) where
 
 pub sound-from : (nodes : List Node) → ((n : ℕ) → n < length nodes → Keeps nodes n) → Sound nodes
 sound-from nodes keep = record {
-    sorts = λ n l. known (at nodes n) (keep n l .fields);
-    expressions = λ n l i. sound-E nodes n (formE (at nodes n)) (subst (Held nodes n) (children-E (at nodes n) (i .0) (i .1)) (hold n l));
-    commands = λ n l i. sound-C nodes n (formC (at nodes n)) (subst (Held nodes n) (children-C (at nodes n) (i .0) (i .1)) (hold n l));
-    declarations = λ n l i. sound-D nodes n (formD (at nodes n)) (subst (Held nodes n) (children-D (at nodes n) (i .0) (i .1)) (hold n l));
-    truths = λ n l e. truth-range (at nodes n) (keep n l .fields) e;
-    operators = λ n l e. operator-range (at nodes n) (keep n l .fields) e;
-    parameters = λ n l lo hi. parameter-range (at nodes n) (keep n l .fields) lo hi }
+  sorts = λ n l. known (at nodes n) (keep n l .fields);
+  expressions = λ n l i. sound-E nodes n (formE (at nodes n)) (subst (Held nodes n) (children-E (at nodes n) (i .0) (i .1)) (hold n l));
+  commands = λ n l i. sound-C nodes n (formC (at nodes n)) (subst (Held nodes n) (children-C (at nodes n) (i .0) (i .1)) (hold n l));
+  declarations = λ n l i. sound-D nodes n (formD (at nodes n)) (subst (Held nodes n) (children-D (at nodes n) (i .0) (i .1)) (hold n l));
+  truths = λ n l e. truth-range (at nodes n) (keep n l .fields) e;
+  operators = λ n l e. operator-range (at nodes n) (keep n l .fields) e;
+  parameters = λ n l lo hi. parameter-range (at nodes n) (keep n l .fields) lo hi;
+}
   where
     hold : (n : ℕ) → n < length nodes → Held nodes n (children (at nodes n))
     hold n l = held nodes n (children (at nodes n)) (keep n l .below) (keep n l .sorts)
@@ -80,7 +81,8 @@ shaped nodes e =
     record {
       keep = nodes-keep nodes (p .0);
       once = λ n l. eqb-true _ 1 (unless-ok _ NotOneParent n (all-passed (parentVerdict nodes) (rootOf nodes) 0 n (q .0) (omega arith) (omega arith)));
-      root = unless-ok _ _ _ (q .1) }
+      root = unless-ok _ _ _ (q .1);
+    }
 
 pub sound : (nodes : List Node) → shapeVerdict nodes ≡ Ok tt → Sound nodes
 sound nodes e = sound-from nodes (shaped nodes e .keep)

@@ -22,8 +22,9 @@ loop-n-holds c = (refl, λ k. zeros 512 k)
 
 pub tally-node-requires : need.tally-node-requires
 tally-node-requires c κs = record {
-    within = lower-more (c .loop-n .n) _ _ (omega (arith, c .loop-n .inv .0)) (c .pre .below (c .loop-n .n) (omega arith));
-    small = λ k. omega (arith, c .loop-n .inv .1 k, few-children (c .args .nodes .now) (c .loop-n .n) k) }
+  within = lower-more (c .loop-n .n) _ _ (omega (arith, c .loop-n .inv .0)) (c .pre .below (c .loop-n .n) (omega arith));
+  small = λ k. omega (arith, c .loop-n .inv .1 k, few-children (c .args .nodes .now) (c .loop-n .n) k);
+}
 
 pub loop-n-again : need.loop-n-again
 loop-n-again c = (omega arith, λ k. omega (arith, c .tally-node .ensures k, c .loop-n .inv .1 k, one-more-node (c .args .nodes .now) (c .loop-n .n) k))
