@@ -1,6 +1,6 @@
 -- The walk over the names accepts exactly the trees whose names are visible and of the role that is wanted.
-use mathlib.Core.Path.{_≡_, refl, sym, ap, _∙_}
-use mathlib.Core.Bool.{Bool, true, false}
+use mathlib.Core.Path.{_≡_, refl, ap}
+use mathlib.Core.Bool.{true}
 use mathlib.Core.List.{List}
 use Prim.Native.Nat.{ℕ}
 use native.Mathlib.Omega.{arith}
@@ -12,7 +12,7 @@ use Rattle.language.specs.declared.name.Entry.{Entry}
 use Rattle.language.specs.declared.name.Place.{Place}
 use Rattle.language.specs.declared.name.Role.{Role}
 use Rattle.language.specs.declared.name.Role.the-variants.{Value, Procedure, Function}
-use Rattle.language.specs.Names.{Names, NamedE, NamedC, NamedD, sameRole, naming, namesE, namesC, namesD}
+use Rattle.language.specs.Names.{NamedE, NamedC, NamedD, sameRole, naming, namesE, namesC, namesD}
 use Rattle.language.specs.Scope.{placeOf, place, scopeAfter, scopeInside}
 use Rattle.language.specs.Tree.{Expression, Command, Declaration}
 use Rattle.language.specs.Tree.Expression.{number, truth, read, name, operation, functionCall, choice}

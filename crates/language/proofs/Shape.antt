@@ -1,21 +1,19 @@
 -- What an accepted shape says of the nodes.
-use mathlib.Core.Path.{_≡_, refl, sym, ap, subst, _∙_}
-use mathlib.Core.Bool.{Bool, true, false}
+use mathlib.Core.Path.{_≡_, subst}
+use mathlib.Core.Bool.{true}
 use mathlib.Core.List.{List}
-use Prim.Native.Nat.{ℕ, _+_, _≤_, _<_}
+use Prim.Native.Nat.{ℕ, _≤_, _<_}
 use native.Mathlib.Omega.{arith}
-use lib.Dec.{eqb}
 use lib.ListN.{length}
 use Rattle.std.specs.declared.result.Result.the-variants.{Ok}
 use Rattle.std.proofs.shelf.Tests.{eqb-true}
 use Rattle.std.proofs.shelf.Ways.{tells}
 use Rattle.vocabulary.specs.declared.node.Node.{Node}
 use Rattle.vocabulary.specs.declared.refusal.Cause.the-variants.{FieldRule, ChildNotLower, ChildSort, NotOneParent}
-use Rattle.vocabulary.specs.Refusals.{unless}
 use Rattle.language.specs.declared.kind.Sort.the-variants.{Command}
 use Rattle.language.specs.Fields.{fieldsOf, formed, children, isOf}
 use Rattle.language.specs.Reading.{formE, formC, formD}
-use Rattle.language.specs.Sound.{Sound, SoundE, SoundC, SoundD}
+use Rattle.language.specs.Sound.{Sound}
 use Rattle.language.specs.Table.{at, lower, fitting, times, childrenIn, rootOf}
 use Rattle.language.specs.Verdicts.{nodeVerdict, parentVerdict, upward, shapeVerdict}
 use Rattle.language.proofs.ByKind.{pick, withKind, known, held, children-E, children-C, children-D, sound-E, sound-C, sound-D, Held}

@@ -1,7 +1,5 @@
-use mathlib.Core.Path.{_≡_, sym}
-use mathlib.Core.Bool.{true, false}
+use mathlib.Core.Path.{sym}
 use native.Mathlib.Omega.{arith}
-use Rattle.language.specs.Fields.{formed}
 use Rattle.language.specs.Table.{at}
 use Rattle.language.proofs.ByKind.{unknown}
 use Rattle.language.proofs.Fielded.{tag-fault, rest-fault, formed-from}

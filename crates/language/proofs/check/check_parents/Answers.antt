@@ -1,11 +1,9 @@
-use borrow.Author.Needs.{needs}
 use mathlib.Core.Path.{_≡_, refl, sym, ap, _∙_}
-use Prim.Native.Nat.{ℕ, zero, suc, _<_, _≤_, _+_, _-_}
+use Prim.Native.Nat.{ℕ, zero, suc, _+_, _-_}
 use native.Mathlib.Omega.{arith}
 use lib.ListN.{length, getD, replicate}
-use Rattle.std.proofs.shelf.Tests.{eq-eqb, ne-eqb}
-use Rattle.language.specs.Fields.{children}
-use Rattle.language.specs.Table.{at, times, childrenIn, rootOf}
+use Rattle.std.proofs.shelf.Tests.{ne-eqb}
+use Rattle.language.specs.Table.{times, childrenIn, rootOf}
 use Rattle.language.specs.Verdicts.{parentVerdict}
 use Rattle.language.proofs.Fielded.{lower-more, one-more-node, few-children}
 use Rattle.language.proofs.Upward.{passed, refused, done}

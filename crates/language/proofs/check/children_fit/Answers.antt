@@ -1,9 +1,7 @@
-use borrow.Author.Needs.{needs}
 use mathlib.Core.Path.{refl, sym, ap}
 use native.Mathlib.Omega.{arith}
-use lib.Dec.{ltb}
 use Rattle.language.specs.Fields.{isOf}
-use Rattle.language.specs.Table.{at, lower, fitting}
+use Rattle.language.specs.Table.{at, fitting}
 use Rattle.language.proofs.Fielded.{all-fields, none-held}
 use Rattle.language.proofs.check.children_fit.Needs as need
 

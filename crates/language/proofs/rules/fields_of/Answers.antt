@@ -1,5 +1,4 @@
 -- Each row of the code is the row of the definition.
-use mathlib.Core.Path.{refl}
 use native.Mathlib.Omega.{arith}
 use Rattle.std.proofs.shelf.Ways.{tells}
 use Rattle.language.specs.Fields.{fieldsOf}
