@@ -1,21 +1,18 @@
 -- A table is accepted exactly when it is well formed.
-use mathlib.Core.Path.{_≡_, refl, sym, ap, _∙_}
-use mathlib.Core.Bool.{true}
+use mathlib.Core.Path.{_≡_}
 use mathlib.Core.List.{List, []}
-use Prim.Native.Nat.{ℕ, _+_, _%_, _≤_, _<_}
+use Prim.Native.Nat.{ℕ, _%_, _<_}
 use native.Mathlib.Omega.{arith}
-use lib.Dec.{eqb, leb, ltb}
 use lib.ListN.{length}
 use Rattle.std.specs.declared.result.Result.the-variants.{Ok}
 use Rattle.std.proofs.shelf.Tests.{and-parts, and-from, ltb-true, lt-ltb, leb-true, le-leb, eqb-true, eq-eqb}
 use Rattle.vocabulary.specs.declared.refusal.Cause.the-variants.{TableLength, FieldRule, ChildNotLower, ChildSort, NotOneParent, RootNotCommand}
-use Rattle.language.specs.Names.{namesC, NamedC}
 use Rattle.language.specs.Reading.{treeOf}
 use Rattle.language.specs.Table.{nodesOf, fits, rootOf}
-use Rattle.language.specs.Verdicts.{nodeVerdict, parentVerdict, upward, shapeVerdict, tableVerdict}
+use Rattle.language.specs.Verdicts.{nodeVerdict, parentVerdict, tableVerdict}
 use Rattle.language.specs.WellFormed.{WellFormed}
 use Rattle.language.proofs.Named.{named-C, walked-C}
-use Rattle.language.proofs.Shape.{Keeps, Shaped, shaped}
+use Rattle.language.proofs.Shape.{shaped}
 use Rattle.language.proofs.Upward.{both-ok, ok-both, unless-ok, ok-unless, passed-all}
 
 module _ (table : List ℕ) where
@@ -35,7 +32,8 @@ module _ (table : List ℕ) where
         sorts = λ n l. s .keep n l .sorts;
         once = s .once;
         root = s .root;
-        names = named-C (treeOf (nodesOf table)) [] (q .1) }
+        names = named-C (treeOf (nodesOf table)) [] (q .1);
+      }
 
   pub accepted : WellFormed table → tableVerdict table ≡ Ok tt
   accepted w =

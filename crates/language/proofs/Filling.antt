@@ -22,7 +22,7 @@ filled-none bytes old = refl
 
 -- one more
 pub filled-more : (bytes : List ℕ) (old now : List Node) (n : ℕ) → n < length old → now ≡ nodesIn bytes n ++ drop n old
-  → set now n (nodeAt bytes (8 * n)) ≡ nodesIn bytes (n + 1) ++ drop (n + 1) old
+    → set now n (nodeAt bytes (8 * n)) ≡ nodesIn bytes (n + 1) ++ drop (n + 1) old
 unfolding nodesIn
 filled-more bytes old now n l e =
     ap (λ (xs : List Node). set xs n (nodeAt bytes (8 * n))) (e ∙ ap (λ (ys : List Node). nodesIn bytes n ++ ys) (drop-cons old n nowhere l))

@@ -1,6 +1,6 @@
 -- The walk over the names accepts exactly the trees whose names are visible and of the role that is wanted.
-use mathlib.Core.Path.{_≡_, refl, sym, ap, _∙_}
-use mathlib.Core.Bool.{Bool, true, false}
+use mathlib.Core.Path.{_≡_, refl, ap}
+use mathlib.Core.Bool.{true}
 use mathlib.Core.List.{List}
 use Prim.Native.Nat.{ℕ}
 use native.Mathlib.Omega.{arith}
@@ -12,7 +12,7 @@ use Rattle.language.specs.declared.name.Entry.{Entry}
 use Rattle.language.specs.declared.name.Place.{Place}
 use Rattle.language.specs.declared.name.Role.{Role}
 use Rattle.language.specs.declared.name.Role.the-variants.{Value, Procedure, Function}
-use Rattle.language.specs.Names.{Names, NamedE, NamedC, NamedD, sameRole, naming, namesE, namesC, namesD}
+use Rattle.language.specs.Names.{NamedE, NamedC, NamedD, sameRole, naming, namesE, namesC, namesD}
 use Rattle.language.specs.Scope.{placeOf, place, scopeAfter, scopeInside}
 use Rattle.language.specs.Tree.{Expression, Command, Declaration}
 use Rattle.language.specs.Tree.Expression.{number, truth, read, name, operation, functionCall, choice}
@@ -57,6 +57,7 @@ named-E (choice nd a b c) sc e = let p = both-ok _ _ e in let q = both-ok _ _ (p
 
 mutual
   unfolding namesC namesD
+
   pub named-C : (t : Command) (sc : List Entry) → namesC t sc ≡ Ok tt → NamedC t sc
   named-C (assign nd a b) sc e = let p = both-ok _ _ e in (named-E a sc (p .0), named-E b sc (p .1))
   named-C (output nd a) sc e = named-E a sc e
@@ -86,6 +87,7 @@ walked-E (choice nd a b c) sc h = ok-both _ _ (walked-E a sc (h .0)) (ok-both _ 
 
 mutual
   unfolding namesC namesD
+
   pub walked-C : (t : Command) (sc : List Entry) → NamedC t sc → namesC t sc ≡ Ok tt
   walked-C (assign nd a b) sc h = ok-both _ _ (walked-E a sc (h .0)) (walked-E b sc (h .1))
   walked-C (output nd a) sc h = walked-E a sc h

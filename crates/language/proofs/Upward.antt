@@ -1,18 +1,16 @@
 -- The first refusal of a walk upward, and what it means that there is none.
 use mathlib.Core.Path.{_≡_, refl, sym, ap, subst, _∙_}
 use mathlib.Core.Bool.{Bool, true, false}
-use mathlib.Core.List.{List}
 use mathlib.Core.Logic.{⊎-elim}
 use Prim.Native.Nat.{ℕ, zero, suc, _+_, _-_, _≤_, _<_}
 use native.Mathlib.Omega.{arith}
 use native.Mathlib.Numerals.{add-one}
-use Rattle.std.specs.declared.result.Result.{Result}
 use Rattle.std.specs.declared.result.Result.the-variants.{Ok, Err}
 use Rattle.std.specs.Results.{andOther}
 use Rattle.std.proofs.shelf.Tests.{cases-eq}
 use Rattle.vocabulary.specs.declared.refusal.Cause.{Cause}
 use Rattle.vocabulary.specs.declared.refusal.Refusal.{Refusal}
-use Rattle.vocabulary.specs.Refusals.{Verdict, refusal, unless}
+use Rattle.vocabulary.specs.Refusals.{Verdict, unless}
 use Rattle.language.specs.Verdicts.{upward}
 
 -- a verdict that accepts is the verdict on two things
