@@ -14,6 +14,7 @@ use Rattle.language.specs.Verdicts.{tableVerdict}
 use Rattle.ports.specs.Ramps.{rampFits}
 use Rattle.sheet.specs.Layout.{sheetOf, halfOf}
 use Rattle.sheet.specs.Sheets.{startVerdict, finishVerdict, openVerdict}
+use Rattle.sheet.specs.Writing.{halfSheetOf}
 use Rattle.worked.specs.Programs.{node, number, output, name, programIn, oneOutput}
 
 -- the table is refused with this cause at this node
@@ -48,8 +49,8 @@ pub record RefusedExamples : Type 0 where
   pub one-byte-short : startVerdict (Some (programIn oneOutput)) 63 ≡ Err (refusal MemoryShort 0)
   pub just-enough : startVerdict (Some (programIn oneOutput)) 64 ≡ Ok tt
   -- a node of the half sheet overwritten
-  pub overwritten : finishVerdict (Some (programIn oneOutput)) (set begun 20 8) ≡ Err (refusal NotThisHalf 0)
-  pub as-begun : finishVerdict (Some (programIn oneOutput)) begun ≡ Ok tt
+  pub overwritten : finishVerdict (Some (programIn oneOutput)) (halfSheetOf (programIn oneOutput)) (set begun 20 8) ≡ Err (refusal NotThisHalf 0)
+  pub as-begun : finishVerdict (Some (programIn oneOutput)) (halfSheetOf (programIn oneOutput)) begun ≡ Ok tt
   -- 15 bytes of a sheet; its operand 7 changed into 8
   pub fifteen-bytes : openVerdict (take 15 (sheetOf (programIn oneOutput))) ≡ Err (refusal SheetHeader 0)
   pub other-operand : openVerdict (set (sheetOf (programIn oneOutput)) 36 8) ≡ Err (refusal NotTheTranslation 0)

@@ -1,0 +1,4 @@
+use Rattle.sheet.proofs.theorems.only_sheets_open.Needs as need
+
+pub returns : need.returns
+returns c = ?
