@@ -6,11 +6,11 @@ use Prim.Native.Nat.{ℕ, zero, suc, _+_, _-_, _*_, _/_, _%_, _≤_, _<_}
 use native.Mathlib.Omega.{arith}
 use native.Mathlib.Numerals.{add-one}
 use native.Mathlib.Nat.{add-assoc}
-use lib.ListN.{length, getD, take, drop, length-append, length-drop}
+use lib.ListN.{length, getD, take, drop}
 use lib.Seq.{take-add, drop-drop, drop-cons}
 use Rattle.std.specs.shelf.Lists.{All}
 use Rattle.std.proofs.shelf.Elements.{all-getD}
-use Rattle.std.proofs.shelf.Lists.{take-all}
+use Rattle.std.proofs.shelf.Lists.{take-all, getD-past}
 use Rattle.std.proofs.shelf.Tests.{cases-lt}
 use Rattle.vocabulary.specs.declared.node.Node.{Node}
 use Rattle.language.specs.Table.{field, nodeAt, nodesIn, nodesOf}
@@ -35,7 +35,7 @@ take-pair b k h =
 
 module _ (b : List ℕ) (bytes : Bytes b) where
   byte-at : (k : ℕ) → getD b k 0 < 256
-  byte-at k = elim (cases-lt k (length b)) [ inl h ↦ all-getD (λ x. x < 256) b k 0 h bytes | inr h ↦ ? ]
+  byte-at k = elim (cases-lt k (length b)) [ inl h ↦ all-getD (λ x. x < 256) b k 0 h bytes | inr h ↦ (let e = getD-past b k 0 h in omega arith) ]
 
   pub field-bytes : (k : ℕ) → k + 2 ≤ length b → two (field b k) ≡ take 2 (drop k b)
   field-bytes k h =
@@ -76,8 +76,3 @@ module _ (b : List ℕ) (bytes : Bytes b) where
   -- the nodes of a table are written as the table
   pub table-bytes : length b % 8 ≡ 0 → tableBytes (nodesOf b) ≡ b
   table-bytes h = table-front (length b / 8) (omega arith) ∙ take-all (8 * (length b / 8)) b (omega arith)
-
-pub nodes-length : (b : List ℕ) (n : ℕ) → length (nodesIn b n) ≡ n
-unfolding nodesIn
-nodes-length b zero = refl
-nodes-length b (suc n) = length-append (nodesIn b n) (nodeAt b (8 * n) ∷ []) ∙ (let h = nodes-length b n in omega arith)

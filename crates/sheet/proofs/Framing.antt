@@ -60,11 +60,11 @@ framed-by b f =
 
 -- a half sheet has 0 where the offset of the code stands
 pub half-refused : HalfRefused
-half-refused p rest = refused (framed (halfOf p ++ rest)) (λ e. let z = frame-of (halfOf p ++ rest) e .offset in omega arith)
+half-refused p rest = refused (framed (halfOf p ++ rest)) _ (λ e. let z = frame-of (halfOf p ++ rest) e .offset in omega arith)
   where
-    refused : (b : Bool) {w : Verdict} → (b ≡ true → ⊥) → andOther (unless b SheetHeader 0) w ≡ Err (refusal SheetHeader 0)
-    refused true f = absurd (f refl)
-    refused false f = refl
+    refused : (b : Bool) (w : Verdict) → (b ≡ true → ⊥) → andOther (unless b SheetHeader 0) w ≡ Err (refusal SheetHeader 0)
+    refused true w f = absurd (f refl)
+    refused false w f = refl
 
 -- the parts of a sheet that is written
 module _ (p : Program) where
