@@ -3,4 +3,5 @@
 pub mod half;
 pub mod layout;
 pub mod open;
+pub mod theorems;
 pub mod write;
