@@ -5,4 +5,4 @@ pub mod half;
 pub mod layout;
 pub mod open;
 pub mod theorems;
-pub mod write;
+mod write;
