@@ -1,3 +1,4 @@
 pub mod Reports
 pub mod Model
+pub mod Accepts
 pub mod Calls
