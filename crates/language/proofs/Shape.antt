@@ -17,7 +17,8 @@ use Rattle.language.specs.Sound.{Sound}
 use Rattle.language.specs.Table.{at, lower, fitting, times, childrenIn, rootOf}
 use Rattle.language.specs.Verdicts.{nodeVerdict, parentVerdict, upward, shapeVerdict}
 use Rattle.language.proofs.ByKind.{pick, withKind, known, held, children-E, children-C, children-D, sound-E, sound-C, sound-D, Held}
-use Rattle.language.proofs.Upward.{both-ok, unless-ok, all-passed}
+use Rattle.language.proofs.Upward.{all-passed}
+use Rattle.language.proofs.Verdicts.{both-accept, unless-accepts}
 
 -- a node by itself
 pub record Keeps (nodes : List Node) (n : ℕ) : Type 0 where
@@ -27,9 +28,9 @@ pub record Keeps (nodes : List Node) (n : ℕ) : Type 0 where
 
 pub node-keeps : (nodes : List Node) (n : ℕ) → nodeVerdict nodes n ≡ Ok tt → Keeps nodes n
 node-keeps nodes n e =
-    let p = both-ok _ _ e in
-    let q = both-ok _ _ (p .1) in
-    record { fields = unless-ok _ FieldRule n (p .0); below = unless-ok _ ChildNotLower n (q .0); sorts = unless-ok _ ChildSort n (q .1) }
+    let p = both-accept _ _ e in
+    let q = both-accept _ _ (p .1) in
+    record { fields = unless-accepts _ FieldRule n (p .0); below = unless-accepts _ ChildNotLower n (q .0); sorts = unless-accepts _ ChildSort n (q .1) }
 
 pub nodes-keep : (nodes : List Node) → upward (nodeVerdict nodes) (length nodes) 0 ≡ Ok tt → (n : ℕ) → n < length nodes → Keeps nodes n
 nodes-keep nodes e n l = node-keeps nodes n (all-passed (nodeVerdict nodes) (length nodes) 0 n e (omega arith) (omega arith))
@@ -74,12 +75,12 @@ pub record Shaped (nodes : List Node) : Type 0 where
 
 pub shaped : (nodes : List Node) → shapeVerdict nodes ≡ Ok tt → Shaped nodes
 shaped nodes e =
-    let p = both-ok _ _ e in
-    let q = both-ok _ _ (p .1) in
+    let p = both-accept _ _ e in
+    let q = both-accept _ _ (p .1) in
     record {
       keep = nodes-keep nodes (p .0);
-      once = λ n l. eqb-true _ 1 (unless-ok _ NotOneParent n (all-passed (parentVerdict nodes) (rootOf nodes) 0 n (q .0) (omega arith) (omega arith)));
-      root = unless-ok _ _ _ (q .1);
+      once = λ n l. eqb-true _ 1 (unless-accepts _ NotOneParent n (all-passed (parentVerdict nodes) (rootOf nodes) 0 n (q .0) (omega arith) (omega arith)));
+      root = unless-accepts _ _ _ (q .1);
     }
 
 pub sound : (nodes : List Node) → shapeVerdict nodes ≡ Ok tt → Sound nodes
