@@ -2,6 +2,7 @@ pub mod Tree
 pub mod Fields
 pub mod Table
 pub mod Reading
+pub mod Sound
 pub mod Scope
 pub mod Names
 pub mod Translation
