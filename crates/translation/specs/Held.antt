@@ -1,13 +1,13 @@
 -- What the translator's tables hold, and what its functions do to them.
 use mathlib.Core.Path.{_≡_}
-use mathlib.Core.List.{List, _++_}
-use Prim.Native.Nat.{ℕ, _+_, _≤_}
+use mathlib.Core.List.{List, _∷_, _++_}
+use Prim.Native.Nat.{ℕ, suc, _≤_}
+use lib.ListN.{set}
 use Rattle.std.specs.declared.option.Option.{Option}
 use Rattle.std.specs.declared.result.Result.{Result}
 use Rattle.std.specs.declared.result.Result.the-variants.{Ok, Err}
 use Rattle.vocabulary.specs.declared.code.Word.{Word}
 use Rattle.vocabulary.specs.declared.refusal.Refusal.{Refusal}
-use Rattle.vocabulary.specs.Refusals.{Verdict}
 use Rattle.vocabulary.specs.Tables.{front, stack}
 use Rattle.language.specs.declared.name.Entry.{Entry}
 use Rattle.language.specs.declared.name.Place.{Place}
@@ -30,15 +30,21 @@ pub record Added (c d : Code) (ws : List Word) (p : ℕ) : Type 0 where
   pub words : text d ≡ text c ++ ws
   pub end : d .count ≡ p
 
--- the same, of a call that was accepted
-abbrev pub Wrote : Code → Code → List Word → ℕ → Verdict → Type 0
-Wrote c d ws p (Ok _) = Added c d ws p
-Wrote c d ws p (Err e) = Unit {0}
+-- from c to d the word at a position became w
+pub record Aimed (c d : Code) (at : ℕ) (w : Word) : Type 0 where
+  pub words : text d ≡ set (text c) at w
+  pub end : d .count ≡ c .count
 
 -- what was visible in s stands in t too, below what t may have more
 pub record Older (s t : Scope) : Type 0 where
   pub count : s .count ≤ t .count
   pub kept : stack (t .entries) (s .count) ≡ visible s
+
+-- a name more is visible, in front of all others
+pub record Bound (s t : Scope) (e : Entry) : Type 0 where
+  pub older : Older s t
+  pub seen : visible t ≡ e ∷ visible s
+  pub more : t .count ≡ suc (s .count)
 
 -- the same names are visible
 pub record Same (s t : Scope) : Type 0 where
