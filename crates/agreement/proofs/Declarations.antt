@@ -1,0 +1,129 @@
+-- The simulation of declarations, a lemma for each form, by induction on the depth.
+use mathlib.Core.Path.{_≡_, refl, sym, _∙_, ap, subst}
+use mathlib.Core.List.{List, [], _∷_, _++_}
+use Prim.Native.Nat.{ℕ, zero, suc, _+_, _*_, _≤_, _<_}
+use native.Mathlib.Omega.{arith}
+use lib.ListN.{length, length-append}
+use Rattle.vocabulary.specs.declared.code.Instruction.the-variants.{Jump, Bind, New, Clos}
+use Rattle.vocabulary.specs.declared.value.Value.{Value}
+use Rattle.vocabulary.specs.declared.value.Value.the-variants.{Plain as plain, Location}
+use Rattle.vocabulary.specs.World.{World, withCells}
+use Rattle.language.specs.Tree.{Expression, Declaration, sizeE, sizeC, sizeD}
+use Rattle.language.specs.Tree.Declaration.{constant, variable, procedure, function, pair}
+use Rattle.language.specs.Scope.{entry, scopeAfter, scopeInside}
+use Rattle.language.specs.Translation.{behindE, behindC, behindD, plainEnd}
+use Rattle.language.specs.Outcomes.{Denoted}
+use Rattle.language.specs.Outcomes.Binding.{binding}
+use Rattle.language.specs.Outcomes.Denoted.{value, procedureBody, functionBody}
+use Rattle.language.specs.Outcomes.Outcome.{done}
+use Rattle.language.specs.Meaning.{evalD}
+use Rattle.machine.specs.declared.tables.Bound.{Bound}
+use Rattle.machine.specs.declared.tables.Bound.the-variants.{Holds, Body}
+use Rattle.machine.specs.State.{Config, config, ahead, sides, ports}
+use Rattle.machine.specs.State.State.{running}
+use Rattle.machine.specs.Instructions.{withStack, withStore}
+use Rattle.agreement.proofs.Steps.{Setup, Is, Reach, stay, then, also}
+use Rattle.agreement.proofs.Placed.{PlacedD, part-E, part-C, part-D, part-plain}
+use Rattle.agreement.proofs.Scene.{Match, roleOf, Scene, Waiting, DenotesInside, all-inside-more, weight, bodies, Fits, fits-part}
+use Rattle.agreement.proofs.Scene.Corresponds.{more}
+use Rattle.agreement.proofs.Instructions.{noting, with-room, bind-with-room}
+use Rattle.agreement.proofs.Simulation.{is-done, is-cut, andThen, lastly, at, Declared, Declares, SimD}
+use Rattle.agreement.proofs.Shared.{simPlain}
+use Rattle.agreement.proofs.Expressions.{simE}
+
+module _ (S : Setup) where
+  module _ (Γ : Scene (S .code)) (K : Waiting) (p : ℕ) (w : World) (b r : ℕ) where
+    -- one new binding, and perhaps one new cell
+    one-binding : (q z x : ℕ) (th : Denoted) (bound : Bound) (w₁ : World) (c s : ℕ) → Fits (S .room) (Γ .bindings) K w r z → weight th < z →
+        Match (S .code) (Γ .scope) th bound → DenotesInside (length (w₁ .cells)) th →
+        Reach S (at S Γ K p w) s (running (config q (K .values) (bound ∷ Γ .environment) (suc (K .used)) (K .dump) w₁)) →
+        s + 3 * c ≤ 3 * b → b + 1 ≤ 2 * s + c → length (w .cells) ≤ length (w₁ .cells) → length (w₁ .cells) ≤ suc r →
+        Declares S Γ K p q w b r z (entry x (roleOf th) ∷ Γ .scope) (done (binding x th ∷ Γ .bindings) w₁ c)
+    one-binding q z x th bound w₁ c s fits lighter match inside reach most least kept few = is-done S s (record {
+        environment = bound ∷ Γ .environment; used = suc (K .used); r′ = suc r; corresponds = more x th bound match (Γ .corresponds);
+        reach = reach; most = most; least = least; kept = kept; inside = (inside, all-inside-more _ _ kept (Γ .bindings) (fits .inside));
+        fewUsed = omega arith; fewCells = few; higher = omega arith; enough = omega arith })
+
+    -- a routine: CLOS binds the position of its body, and a jump leads around that
+    routine-case : (nd q z x : ℕ) (th : Denoted) (c : ℕ) → b ≡ suc c → Fits (S .room) (Γ .bindings) K w r z → weight th < z →
+        Is (S .code) p (Clos (suc (suc p))) nd → Is (S .code) (suc p) (Jump q) nd → Match (S .code) (Γ .scope) th (Body (suc (suc p))) → DenotesInside (length (w .cells)) th →
+        Declares S Γ K p q w b r z (entry x (roleOf th) ∷ Γ .scope) (done (binding x th ∷ Γ .bindings) w c)
+    routine-case nd q z x th c e fits lighter clos jump match inside =
+        let here : Config = config p (K .values) (Γ .environment) (K .used) (K .dump) w in
+        one-binding q z x th (Body (suc (suc p))) w c 2 fits lighter match inside
+        (also S _ nd (also S _ nd (stay S) clos (omega arith) (noting nd (sides here) (bind-with-room (S .rules .limit) (Body (suc (suc p))) (ahead here) (omega arith)))) jump (omega arith) refl)
+        (omega arith) (omega arith) (omega arith) (omega arith)
+
+  module _ (g : ℕ) (Γ : Scene (S .code)) (K : Waiting) (p : ℕ) (w : World) (b r : ℕ) (hb : b ≤ g) where
+    constant-case : (nd x : ℕ) (a : Expression) → PlacedD (S .code) (constant nd x a) (Γ .scope) p → Fits (S .room) (Γ .bindings) K w r (sizeD (constant nd x a)) →
+        Declares S Γ K p (behindD (constant nd x a) p) w (suc b) r (sizeD (constant nd x a)) (scopeAfter (constant nd x a) (Γ .scope))
+        (evalD (S .rules) (suc g) (constant nd x a) (Γ .bindings) w (suc b))
+    unfolding evalD
+    constant-case nd x a placed fits =
+        let qa = part-plain (S .code) a (Γ .scope) p _ (placed .named) (placed .stands) in
+        andThen S _ (stay S) (omega arith) (omega arith)
+        (simPlain S g (simE S g) a Γ K p w b r _ (qa .0) fits (omega arith) hb)
+        (λ v w₁ b₁ s₁ d₁.
+          let here : Config = config (plainEnd a (behindE a p)) (plain v ∷ K .values) (Γ .environment) (K .used) (K .dump) w₁ in
+          one-binding Γ K p w (suc b) r _ _ x (value (plain v)) (Holds (plain v)) w₁ b₁ (s₁ + 1) fits (omega arith) refl tt
+          (also S Bind nd (d₁ .reach) (qa .1 .0) (omega arith)
+            (noting nd (sides here) (bind-with-room (S .rules .limit) (Holds (plain v)) (withStack (K .values) (ahead here)) (omega arith))))
+          (omega arith) (omega arith) (omega arith) (omega arith))
+
+    variable-case : (nd x : ℕ) (a : Expression) → PlacedD (S .code) (variable nd x a) (Γ .scope) p → Fits (S .room) (Γ .bindings) K w r (sizeD (variable nd x a)) →
+        Declares S Γ K p (behindD (variable nd x a) p) w (suc b) r (sizeD (variable nd x a)) (scopeAfter (variable nd x a) (Γ .scope))
+        (evalD (S .rules) (suc g) (variable nd x a) (Γ .bindings) w (suc b))
+    unfolding evalD
+    variable-case nd x a placed fits =
+        let qa = part-plain (S .code) a (Γ .scope) p _ (placed .named) (placed .stands) in
+        andThen S _ (stay S) (omega arith) (omega arith)
+        (simPlain S g (simE S g) a Γ K p w b r _ (qa .0) fits (omega arith) hb)
+        (λ v w₁ b₁ s₁ d₁.
+          let here : Config = config (plainEnd a (behindE a p)) (plain v ∷ K .values) (Γ .environment) (K .used) (K .dump) w₁ in
+          let new : Value = Location (length (w₁ .cells)) in
+          let longer : length (w₁ .cells ++ (v ∷ [])) ≡ length (w₁ .cells) + 1 = length-append (w₁ .cells) (v ∷ []) in
+          one-binding Γ K p w (suc b) r _ _ x (value new) (Holds new) (withCells w₁ (w₁ .cells ++ (v ∷ []))) b₁ (s₁ + 1) fits (omega arith) refl (omega arith)
+          (also S New nd (d₁ .reach) (qa .1 .0) (omega arith)
+            (noting nd (sides here) (with-room (length (w₁ .cells)) (S .rules .limit) _ (omega arith)
+              ∙ bind-with-room (S .rules .limit) (Holds new) (withStore (w₁ .cells ++ (v ∷ [])) (withStack (K .values) (ahead here))) (omega arith))))
+          (omega arith) (omega arith) (omega arith) (omega arith))
+
+    pair-case : SimD S g → (nd : ℕ) (a c : Declaration) → PlacedD (S .code) (pair nd a c) (Γ .scope) p → Fits (S .room) (Γ .bindings) K w r (sizeD (pair nd a c)) →
+        Declares S Γ K p (behindD (pair nd a c) p) w (suc b) r (sizeD (pair nd a c)) (scopeAfter (pair nd a c) (Γ .scope))
+        (evalD (S .rules) (suc g) (pair nd a c) (Γ .bindings) w (suc b))
+    unfolding evalD
+    pair-case ih nd a c placed fits =
+        let qa = part-D (S .code) a (Γ .scope) p _ (placed .named .0) (placed .stands) in
+        andThen S _ (stay S) (omega arith) (omega arith)
+        (ih a Γ K p w b r (qa .0) (fits-part w (sizeD a) fits refl (omega arith)) hb)
+        (λ bs w₁ b₁ s₁ d₁.
+          let Γ₁ : Scene (S .code) = record { scope = scopeAfter a (Γ .scope); bindings = bs; environment = d₁ .environment; corresponds = d₁ .corresponds } in
+          let K₁ : Waiting = record { values = K .values; used = d₁ .used; dump = K .dump } in
+          lastly S (d₁ .reach) (omega arith) (omega arith)
+          (ih c Γ₁ K₁ (behindD a p) w₁ b₁ (d₁ .r′) (record { named = placed .named .1; stands = qa .1 })
+            (record { inside = d₁ .inside; values = omega arith; used = d₁ .fewUsed; dump = omega arith; cells = d₁ .fewCells; enough = omega arith }) (omega arith))
+          (λ bs₂ w₂ b₂ s₂ d₂.
+            (s₁ + s₂, record {
+              environment = d₂ .environment; used = d₂ .used; r′ = d₂ .r′; corresponds = d₂ .corresponds; reach = then S (d₁ .reach) (d₂ .reach);
+              most = omega arith; least = omega arith; kept = omega arith; inside = d₂ .inside; fewUsed = d₂ .fewUsed; fewCells = d₂ .fewCells;
+              higher = omega arith; enough = omega arith })))
+
+  next : (g : ℕ) → SimD S g → SimD S (suc g)
+  unfolding evalD
+  next g ih t Γ K p w zero r placed fits hb = is-cut S (omega arith)
+  next g ih (constant nd x a) Γ K p w (suc b) r placed fits hb = constant-case g Γ K p w b r (omega arith) nd x a placed fits
+  next g ih (variable nd x a) Γ K p w (suc b) r placed fits hb = variable-case g Γ K p w b r (omega arith) nd x a placed fits
+  next g ih (procedure nd x t y) Γ K p w (suc b) r placed fits hb =
+      let q = part-C (S .code) t (scopeInside y (Γ .scope)) (suc (suc p)) _ (placed .named) (placed .stands .1 .1) in
+      routine-case Γ K p w (suc b) r nd _ _ x (procedureBody y t) b refl fits (omega arith) (placed .stands .0) (placed .stands .1 .0)
+      (record { start = suc (suc p); node = nd; is = refl; body = q .0; returns = q .1 .0 }) tt
+  next g ih (function nd x t y) Γ K p w (suc b) r placed fits hb =
+      let q = part-E (S .code) t (scopeInside y (Γ .scope)) (suc (suc p)) _ (placed .named) (placed .stands .1 .1) in
+      routine-case Γ K p w (suc b) r nd _ _ x (functionBody y t) b refl fits (omega arith) (placed .stands .0) (placed .stands .1 .0)
+      (record { start = suc (suc p); node = nd; is = refl; body = q .0; returns = q .1 .0 }) tt
+  next g ih (pair nd a c) Γ K p w (suc b) r placed fits hb = pair-case g Γ K p w b r (omega arith) ih nd a c placed fits
+
+  pub simD : (g : ℕ) → SimD S g
+  unfolding evalD
+  simD zero = λ t Γ K p w b r placed fits hb. is-cut S (omega arith)
+  simD (suc g) = next g (simD g)

@@ -1,0 +1,14 @@
+pub mod Steps
+pub mod Placed
+pub mod Scene
+pub mod Lookup
+pub mod Simulation
+pub mod Instructions
+pub mod Shared
+pub mod Expressions
+pub mod Declarations
+pub mod Commands
+pub mod Growth
+pub mod Metered
+pub mod Visits
+pub mod Whole
