@@ -1,0 +1,48 @@
+use borrow.Author.Needs.{needs}
+use mathlib.Core.Path.{_≡_, refl, sym, ap, _∙_}
+use Prim.Native.Nat.{ℕ, suc, _+_, _*_, _≤_, _<_}
+use native.Mathlib.Omega.{arith}
+use Rattle.std.specs.declared.result.Result.the-variants.{Ok, Err}
+use Rattle.std.proofs.shelf.Results.{err-from-errBy}
+use Rattle.language.specs.Names.{namesC, namesD}
+use Rattle.language.specs.Reading.{treeE, treeC, treeD}
+use Rattle.language.specs.Table.{at}
+use Rattle.language.specs.Tree.{sizeC, sizeD}
+use Rattle.translation.proofs.Declarations.{same-D, refused-D, constant-done}
+use Rattle.translation.proofs.Expressions.{ready-E}
+use Rattle.translation.proofs.Forms.{at-10}
+use Rattle.translation.proofs.Rooms.{room-E}
+use Rattle.translation.proofs.Scopes.{older-refl}
+use Rattle.translation.proofs.command.constant.Needs as need
+
+pub plain-value-requires : need.plain-value-requires
+plain-value-requires c κs =
+    let k = at-10 (c .pre .ready) (c .from .ensures) (c .pre .kind) in
+    let s = ap sizeD (k .0) in
+    ready-E (c .pre .ready .sound) (c .pre .ready .here) (k .1) (omega (arith, c .pre .ready .room))
+
+pub returns-in-Break-plain-value : need.returns-in-Break-plain-value
+unfolding namesD
+returns-in-Break-plain-value c =
+    let k = at-10 (c .pre .ready) (c .from .ensures) (c .pre .kind) in
+    let p = err-from-errBy (c .from-residual .result) (c .from-residual .ensures .1) in
+    refused-D (p .1 ∙ ap Err (p .2)) (k .0) (c .in-Break-plain-value .ensures tt .answer) (older-refl _)
+
+pub emit-requires : need.emit-requires
+emit-requires c κs =
+    let k = at-10 (c .pre .ready) (c .from .ensures) (c .pre .kind) in
+    let s = ap sizeD (k .0) in
+    let v = c .in-Continue-plain-value .ensures tt in
+    let r = room-E (treeE (c .args .nodes .now) (at (c .args .nodes .now) (c .from .result) .a)) (c .args .code .now .count) in
+    omega (arith, c .pre .ready .room, v .wrote .end)
+
+pub bind-requires : need.bind-requires
+bind-requires c κs =
+    let k = at-10 (c .pre .ready) (c .from .ensures) (c .pre .kind) in
+    let s = ap sizeD (k .0) in
+    omega (arith, c .pre .ready .names)
+
+pub returns : need.returns
+returns c =
+    let k = at-10 (c .pre .ready) (c .from .ensures) (c .pre .kind) in
+    same-D (k .0) (constant-done _ _ _ (c .in-Continue-plain-value .ensures tt) (c .emit .ensures) (c .bind .ensures))
