@@ -138,3 +138,13 @@ pub fn translate(nodes: &[Node]) -> Result<Code, Refusal>
     code.emit(Instruction::Halt, root);
     Ok(code)
 }
+
+impl Code {
+    // The words, in the order of their positions.
+    pub fn text(&self) -> &[Word]
+        ensures value { λ r. ⌜ now r ≡ text (now (self .entry)) ⌝ }
+        ensures few { λ r. ⌜ length (now r) ≤ 1537 ⌝ }
+    {
+        &self.words[0..self.count]
+    }
+}
