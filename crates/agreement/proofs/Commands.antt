@@ -1,37 +1,33 @@
 -- The simulation of commands, a lemma for each form, by induction on the depth.
-use mathlib.Core.Path.{_≡_, refl, sym, _∙_, ap, subst}
-use mathlib.Core.List.{List, [], _∷_, _++_}
+use mathlib.Core.Path.{refl, sym, _∙_, subst}
+use mathlib.Core.List.{_∷_}
 use mathlib.Core.Bool.{Bool, true, false}
-use Prim.Native.Nat.{ℕ, zero, suc, _+_, _*_, _≤_, _<_, min}
+use Prim.Native.Nat.{ℕ, zero, suc, _+_, _≤_}
 use native.Mathlib.Omega.{arith}
-use lib.ListN.{length, take, set, drop, length-set, length-take}
-use Rattle.std.specs.declared.option.Option.the-variants.{Some}
-use Rattle.vocabulary.specs.declared.code.Instruction.the-variants.{JumpFalse, Jump, IsLoc, Store, Put, Enter, Leave, Call}
+use lib.ListN.{length, set, length-set, length-take}
+use Rattle.vocabulary.specs.declared.code.Instruction.the-variants.{JumpFalse, Jump, IsLoc, Store, Put, Enter, Leave}
 use Rattle.vocabulary.specs.declared.value.Plain.{Plain}
 use Rattle.vocabulary.specs.declared.value.Plain.the-variants.{Number, Truth}
 use Rattle.vocabulary.specs.declared.value.Value.{Value}
 use Rattle.vocabulary.specs.declared.value.Value.the-variants.{Plain as plain, Location}
-use Rattle.vocabulary.specs.Tables.{found}
 use Rattle.vocabulary.specs.World.{World, withCells, hasRoom}
-use Rattle.language.specs.declared.name.Entry.{Entry}
 use Rattle.language.specs.declared.name.Role.the-variants.{Procedure}
-use Rattle.language.specs.Tree.{Expression, Command, Declaration, sizeE, sizeC, sizeD}
+use Rattle.language.specs.Tree.{Expression, Command, Declaration, sizeE, sizeC}
 use Rattle.language.specs.Tree.Command.{assign, output, when, while, block, sequence, procedureCall}
 use Rattle.language.specs.Scope.{scopeAfter}
 use Rattle.language.specs.Translation.{behindE, behindC, behindD, plainEnd}
-use Rattle.language.specs.Outcomes.{Denoted, Binding, bind, plainly, tested, located, putting, asProcedure}
+use Rattle.language.specs.Outcomes.{bind, plainly, tested, located, putting, asProcedure}
 use Rattle.language.specs.Outcomes.Binding.{binding}
-use Rattle.language.specs.Outcomes.Denoted.{value, procedureBody, functionBody}
+use Rattle.language.specs.Outcomes.Denoted.{value}
 use Rattle.language.specs.Outcomes.Found.{named}
 use Rattle.language.specs.Outcomes.Outcome.{done}
 use Rattle.language.specs.Meaning.{evalE, evalC}
-use Rattle.machine.specs.declared.tables.Bound.{Bound}
-use Rattle.machine.specs.State.{Config, config, ahead, ports, spentIn, noted}
+use Rattle.machine.specs.State.{config, ahead, ports, spentIn, noted}
 use Rattle.machine.specs.State.Dump.{frame}
 use Rattle.machine.specs.Instructions.{putIf}
 use Rattle.agreement.proofs.Steps.{Setup, Is, Reach, stay, then, also}
 use Rattle.agreement.proofs.Placed.{expressions, plains, commands, declarations, Placed, part}
-use Rattle.agreement.proofs.Scene.{Match, roleOf, Corresponds, Scene, Waiting, on, AllInside, weight, bodies, Fits, fits-part, fits-on}
+use Rattle.agreement.proofs.Scene.{Scene, Waiting, on, Fits, fits-part, fits-on}
 use Rattle.agreement.proofs.Lookup.{resolve, procedure-at}
 use Rattle.agreement.proofs.Instructions.{noting, with-room}
 use Rattle.agreement.proofs.Simulation.{aValue, aPlain, aCommand, is-done, is-ended, is-cut, andThen, lastly, at, Done, Does, SimC}

@@ -1,6 +1,6 @@
 -- The simulation of declarations, a lemma for each form, by induction on the depth.
-use mathlib.Core.Path.{_≡_, refl, sym, _∙_, ap, subst}
-use mathlib.Core.List.{List, [], _∷_, _++_}
+use mathlib.Core.Path.{_≡_, refl, _∙_}
+use mathlib.Core.List.{[], _∷_, _++_}
 use Prim.Native.Nat.{ℕ, zero, suc, _+_, _*_, _≤_, _<_}
 use native.Mathlib.Omega.{arith}
 use lib.ListN.{length, length-append}
@@ -8,10 +8,10 @@ use Rattle.vocabulary.specs.declared.code.Instruction.the-variants.{Jump, Ret, 
 use Rattle.vocabulary.specs.declared.value.Value.{Value}
 use Rattle.vocabulary.specs.declared.value.Value.the-variants.{Plain as plain, Location}
 use Rattle.vocabulary.specs.World.{World, withCells}
-use Rattle.language.specs.Tree.{Expression, Declaration, sizeE, sizeC, sizeD}
+use Rattle.language.specs.Tree.{Expression, Declaration, sizeE, sizeD}
 use Rattle.language.specs.Tree.Declaration.{constant, variable, procedure, function, pair}
 use Rattle.language.specs.Scope.{entry, scopeAfter, scopeInside}
-use Rattle.language.specs.Translation.{one, behindE, behindC, behindD, plainEnd}
+use Rattle.language.specs.Translation.{one, behindE, behindD, plainEnd}
 use Rattle.language.specs.Outcomes.{Denoted}
 use Rattle.language.specs.Outcomes.Binding.{binding}
 use Rattle.language.specs.Outcomes.Denoted.{value, procedureBody, functionBody}
@@ -19,15 +19,15 @@ use Rattle.language.specs.Outcomes.Outcome.{done}
 use Rattle.language.specs.Meaning.{evalD}
 use Rattle.machine.specs.declared.tables.Bound.{Bound}
 use Rattle.machine.specs.declared.tables.Bound.the-variants.{Holds, Body}
-use Rattle.machine.specs.State.{Config, config, ahead, sides, ports}
+use Rattle.machine.specs.State.{Config, config, ahead, sides}
 use Rattle.machine.specs.State.State.{running}
 use Rattle.machine.specs.Instructions.{withStack, withStore}
-use Rattle.agreement.proofs.Steps.{Setup, Is, Reach, stay, then, also}
+use Rattle.agreement.proofs.Steps.{Setup, Reach, stay, then, also}
 use Rattle.agreement.proofs.Placed.{Sort, expressions, plains, commands, declarations, Stands, Placed, part}
-use Rattle.agreement.proofs.Scene.{BodyAt, Match, roleOf, Scene, Waiting, DenotesInside, all-inside-more, weight, bodies, Fits, fits-part}
+use Rattle.agreement.proofs.Scene.{BodyAt, Match, roleOf, Scene, Waiting, DenotesInside, all-inside-more, weight, Fits, fits-part}
 use Rattle.agreement.proofs.Scene.Corresponds.{more}
 use Rattle.agreement.proofs.Instructions.{noting, with-room, bind-with-room}
-use Rattle.agreement.proofs.Simulation.{is-done, is-cut, andThen, lastly, at, Declared, Declares, SimD}
+use Rattle.agreement.proofs.Simulation.{is-done, is-cut, andThen, lastly, at, Declares, SimD}
 use Rattle.agreement.proofs.Shared.{simPlain}
 use Rattle.agreement.proofs.Expressions.{simE}
 

@@ -1,15 +1,12 @@
 -- The simulation of expressions, a lemma for each form, by induction on the depth.
 use mathlib.Core.Path.{_≡_, refl, sym, _∙_, ap, subst}
 use mathlib.Core.List.{List, [], _∷_}
-use mathlib.Core.Bool.{Bool, true, false}
-use Prim.Native.Nat.{ℕ, zero, suc, _+_, _*_, _≤_, _<_}
+use Prim.Native.Nat.{ℕ, zero, suc, _+_, _*_, _≤_}
 use native.Mathlib.Omega.{arith}
-use lib.IntN.{ℤ}
-use lib.ListN.{length, drop}
-use Rattle.std.specs.declared.option.Option.the-variants.{Some, None}
+use lib.ListN.{length}
 use Rattle.std.specs.declared.result.Result.the-variants.{Ok, Err}
 use Rattle.vocabulary.specs.declared.code.Instruction.{Instruction}
-use Rattle.vocabulary.specs.declared.code.Instruction.the-variants.{Num, Truth as TruthWord, Read, Look, Op, Call}
+use Rattle.vocabulary.specs.declared.code.Instruction.the-variants.{Num, Truth as TruthWord, Read, Look, Op}
 use Rattle.vocabulary.specs.declared.code.Operation.{Operation}
 use Rattle.vocabulary.specs.declared.end.End.the-variants.{Empty}
 use Rattle.vocabulary.specs.declared.item.Item.{Item}
@@ -19,20 +16,16 @@ use Rattle.vocabulary.specs.declared.value.Plain.the-variants.{Number, Truth}
 use Rattle.vocabulary.specs.declared.value.Value.{Value}
 use Rattle.vocabulary.specs.declared.value.Value.the-variants.{Plain as plain}
 use Rattle.vocabulary.specs.Numbers.{Answer}
-use Rattle.vocabulary.specs.Tables.{found}
 use Rattle.vocabulary.specs.World.{World, withFeed}
-use Rattle.language.specs.declared.name.Entry.{Entry}
 use Rattle.language.specs.declared.name.Role.the-variants.{Value as valueRole, Function}
 use Rattle.language.specs.Tree.{Expression, sizeE}
 use Rattle.language.specs.Tree.Expression.{number, truth, read, name, operation, functionCall, choice}
 use Rattle.language.specs.Translation.{behindE, plainEnd}
-use Rattle.language.specs.Outcomes.{Denoted, Binding, bind, find, valued, asFunction, taken, answered}
+use Rattle.language.specs.Outcomes.{bind, find, valued, asFunction, taken, answered}
 use Rattle.language.specs.Outcomes.Binding.{binding}
-use Rattle.language.specs.Outcomes.Denoted.{value, procedureBody, functionBody}
-use Rattle.language.specs.Outcomes.Found.{named}
+use Rattle.language.specs.Outcomes.Denoted.{value}
 use Rattle.language.specs.Outcomes.Outcome.{done}
 use Rattle.language.specs.Meaning.{evalE}
-use Rattle.machine.specs.declared.tables.Bound.{Bound}
 use Rattle.machine.specs.State.{Config, config, ahead, sides, ports, noted, fedIn}
 use Rattle.machine.specs.State.Moved.{moved}
 use Rattle.machine.specs.State.State.{halted}
@@ -40,10 +33,10 @@ use Rattle.machine.specs.Instructions.{push, read as readItem, look, answer}
 use Rattle.machine.specs.Machine.{exec}
 use Rattle.agreement.proofs.Steps.{Setup, Is, Reach, stay, then, also}
 use Rattle.agreement.proofs.Placed.{expressions, plains, Placed, part, operand-is}
-use Rattle.agreement.proofs.Scene.{Match, roleOf, Corresponds, Scene, Waiting, on, Inside, DenotesInside, AllInside, weight, bodies, Fits, fits-part, fits-on}
+use Rattle.agreement.proofs.Scene.{Scene, Waiting, on, Inside, Fits, fits-part, fits-on}
 use Rattle.agreement.proofs.Lookup.{resolve, value-at, function-at}
 use Rattle.agreement.proofs.Instructions.{noting, push-with-room}
-use Rattle.agreement.proofs.Simulation.{aValue, is-done, is-ended, is-cut, andThen, at, Done, Does, SimE}
+use Rattle.agreement.proofs.Simulation.{aValue, is-done, is-ended, is-cut, andThen, at, Does, SimE}
 use Rattle.agreement.proofs.Shared.{a-node-at-least, simPlain, choosing, calling}
 
 module _ (S : Setup) where

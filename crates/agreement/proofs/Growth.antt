@@ -1,10 +1,9 @@
 -- A step takes from the front of the feed and adds to the end of the strip, and does nothing else to them.
-use mathlib.Core.Path.{_≡_, refl, sym, _∙_, ap, subst}
+use mathlib.Core.Path.{_≡_, refl, sym, _∙_, ap}
 use mathlib.Core.List.{List, [], _∷_, _++_, append-assoc, append-nil}
 use mathlib.Core.Bool.{Bool, true, false}
 use Prim.Native.Nat.{ℕ, zero, suc}
 use lib.Dec.{leb}
-use lib.ListN.{length}
 use Rattle.std.specs.declared.option.Option.{Option}
 use Rattle.std.specs.declared.option.Option.the-variants.{Some, None}
 use Rattle.vocabulary.specs.declared.code.Instruction.{Instruction}
@@ -16,13 +15,13 @@ use Rattle.vocabulary.specs.declared.value.Plain.{Plain}
 use Rattle.vocabulary.specs.declared.value.Value.{Value}
 use Rattle.vocabulary.specs.declared.value.Value.the-variants.{Plain as plain, Location}
 use Rattle.vocabulary.specs.Tables.{found}
-use Rattle.vocabulary.specs.World.{World, Rules, withCells, withFeed, hasRoom, afterPut}
-use Rattle.machine.specs.State.{Config, Core, Ports, ports, State, Turn, Moved, noted, fedIn, spentIn, ahead, sides}
+use Rattle.vocabulary.specs.World.{World, Rules, withFeed}
+use Rattle.machine.specs.State.{Config, Core, ports, State, Turn, noted, fedIn, spentIn, ahead}
 use Rattle.machine.specs.State.Moved.{moved}
 use Rattle.machine.specs.State.State.{running, halted, broken}
 use Rattle.machine.specs.State.Turn.{goes, ends, stuck}
 use Rattle.machine.specs.Instructions.{takeItem, read, put, putIf}
-use Rattle.machine.specs.Machine.{perform, exec, obey, step, iterate}
+use Rattle.machine.specs.Machine.{exec, obey, step, iterate}
 use Rattle.agreement.specs.Agreement.{Did, FirstPart}
 
 -- some items were taken and some values put

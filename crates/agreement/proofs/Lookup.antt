@@ -1,8 +1,8 @@
 -- A name that is visible in the scope: what the source finds for it and what stands at its place in the machine's environment match.
-use mathlib.Core.Path.{_≡_, refl, sym, _∙_, ap, subst}
-use mathlib.Core.List.{List, [], _∷_}
+use mathlib.Core.Path.{_≡_, refl, _∙_, ap, subst}
+use mathlib.Core.List.{List, _∷_}
 use mathlib.Core.Bool.{Bool, true, false}
-use Prim.Native.Nat.{ℕ, zero, suc, _+_, _≤_}
+use Prim.Native.Nat.{ℕ, suc, _+_, _≤_}
 use native.Mathlib.Omega.{arith}
 use lib.Dec.{eqb}
 use lib.ListN.{drop}
@@ -19,7 +19,7 @@ use Rattle.language.specs.Scope.{place, later, placeOf, scopeInside}
 use Rattle.language.specs.Outcomes.{Denoted, Binding, Found, find}
 use Rattle.language.specs.Outcomes.Binding.{binding}
 use Rattle.language.specs.Outcomes.Denoted.{value as denotes, procedureBody, functionBody}
-use Rattle.language.specs.Outcomes.Found.{named, unnamed}
+use Rattle.language.specs.Outcomes.Found.{named}
 use Rattle.machine.specs.declared.tables.Bound.{Bound}
 use Rattle.machine.specs.declared.tables.Bound.the-variants.{Holds}
 use Rattle.agreement.proofs.Placed.{Sort, expressions, commands}

@@ -5,10 +5,10 @@
 --   neither leaves more visits than it is granted;
 --   with b ≤ B visits m comes to the same as m′ with b + j visits, but that j more are left; where m is cut, m′ leaves fewer than j.
 -- Every construct of the evaluator keeps this, so that the proof has the evaluator's shape, a line for each form.
-use mathlib.Core.Path.{_≡_, refl, sym, _∙_, ap, subst}
+use mathlib.Core.Path.{_≡_, refl, sym, ap, subst}
 use mathlib.Core.List.{List, [], _∷_}
 use mathlib.Core.Bool.{Bool, true, false}
-use Prim.Native.Nat.{ℕ, zero, suc, _+_, _-_, _≤_, _<_}
+use Prim.Native.Nat.{ℕ, zero, suc, _+_, _≤_, _<_}
 use native.Mathlib.Nat.{zero-add, suc-add}
 use native.Mathlib.Omega.{arith}
 use Rattle.std.specs.declared.option.Option.{Option}
@@ -25,7 +25,7 @@ use Rattle.vocabulary.specs.Numbers.{Answer}
 use Rattle.vocabulary.specs.Tables.{found}
 use Rattle.vocabulary.specs.World.{World, Rules}
 use Rattle.language.specs.Tree.{Expression, Command}
-use Rattle.language.specs.Outcomes.{Denoted, Binding, Outcome, Found, bind, deref, orLost, plainly, taken, answered, valued, tested, located, putting, asFunction, asProcedure}
+use Rattle.language.specs.Outcomes.{Binding, Outcome, Found, bind, deref, orLost, plainly, taken, answered, valued, tested, located, putting, asFunction, asProcedure}
 use Rattle.language.specs.Outcomes.Denoted.{value, procedureBody, functionBody}
 use Rattle.language.specs.Outcomes.Found.{named, unnamed}
 use Rattle.language.specs.Outcomes.Outcome.{done, ended, cut, lost}

@@ -1,21 +1,19 @@
 -- The work that several forms share: a plain value, a test with two ways on, and the call of a body.
 use mathlib.Core.Path.{_≡_, refl, sym, _∙_, ap, subst}
-use mathlib.Core.List.{List, [], _∷_, _++_}
-use mathlib.Core.Bool.{Bool, true, false}
-use Prim.Native.Nat.{ℕ, zero, suc, _+_, _*_, _≤_, _<_}
+use mathlib.Core.List.{List, _∷_, _++_}
+use mathlib.Core.Bool.{true, false}
+use Prim.Native.Nat.{ℕ, suc, _+_, _≤_}
 use native.Mathlib.Omega.{arith}
-use lib.ListN.{length, drop}
+use lib.ListN.{drop}
 use Rattle.std.specs.declared.option.Option.{Option}
 use Rattle.std.specs.declared.option.Option.the-variants.{Some, None}
-use Rattle.vocabulary.specs.declared.code.Instruction.the-variants.{Deref, JumpFalse, Jump, Call, Ret}
-use Rattle.vocabulary.specs.declared.code.Word.{Word}
+use Rattle.vocabulary.specs.declared.code.Instruction.the-variants.{Deref, JumpFalse, Jump, Call}
 use Rattle.vocabulary.specs.declared.value.Plain.{Plain}
 use Rattle.vocabulary.specs.declared.value.Plain.the-variants.{Number, Truth}
 use Rattle.vocabulary.specs.declared.value.Value.{Value}
 use Rattle.vocabulary.specs.declared.value.Value.the-variants.{Plain as plain, Location}
 use Rattle.vocabulary.specs.Tables.{found}
 use Rattle.vocabulary.specs.World.{World}
-use Rattle.language.specs.declared.name.Entry.{Entry}
 use Rattle.language.specs.declared.name.Role.{Role}
 use Rattle.language.specs.Tree.{Expression, sizeE, nodeE}
 use Rattle.language.specs.Tree.Expression.{number, truth, read, name, operation, functionCall, choice}
@@ -26,18 +24,17 @@ use Rattle.language.specs.Outcomes.{Denoted, Binding, Found, Outcome, bind, der
 use Rattle.language.specs.Outcomes.Binding.{binding}
 use Rattle.language.specs.Outcomes.Denoted.{value}
 use Rattle.language.specs.Meaning.{evalE}
-use Rattle.machine.specs.declared.tables.Bound.{Bound}
-use Rattle.machine.specs.declared.tables.Bound.the-variants.{Holds, Body}
-use Rattle.machine.specs.State.{Config, config, State, ahead, sides}
+use Rattle.machine.specs.declared.tables.Bound.the-variants.{Holds}
+use Rattle.machine.specs.State.{Config, config, ahead, sides}
 use Rattle.machine.specs.State.Dump.{frame}
 use Rattle.machine.specs.Instructions.{replaceTop, withStack}
 use Rattle.agreement.proofs.Steps.{Setup, Is, Reach, stay, then, also}
 use Rattle.agreement.proofs.Placed.{Sort, expressions, plains, Stands, Placed, part, operand-is}
-use Rattle.agreement.proofs.Scene.{Corresponds, Scene, Waiting, on, Inside, AllInside, all-inside-more, bodies, Fits, fits-part}
+use Rattle.agreement.proofs.Scene.{Scene, Waiting, Inside, all-inside-more, Fits, fits-part}
 use Rattle.agreement.proofs.Scene.Corresponds.{more}
 use Rattle.agreement.proofs.Lookup.{RoutineAt}
 use Rattle.agreement.proofs.Instructions.{noting, call-with-room, found-inside}
-use Rattle.agreement.proofs.Simulation.{Work, aValue, aPlain, leaving, Post, is-done, is-ended, andThen, lastly, at, Done, Does, Sim, SimE, SimPlain}
+use Rattle.agreement.proofs.Simulation.{Work, aValue, aPlain, is-done, is-ended, andThen, lastly, at, Done, Does, Sim, SimE, SimPlain}
 
 pub a-node-at-least : (t : Expression) → 1 ≤ sizeE t
 a-node-at-least (number nd z) = omega arith

@@ -8,9 +8,9 @@
 --   cut     the machine runs with the same world after s steps, and b ≤ 2 × s + h, where h is the number of nodes that can
 --           have begun without a step yet: those of the tree and of the bodies that it can call
 --   lost    never
-use mathlib.Core.Path.{_≡_, refl, sym, _∙_, ap, subst}
-use mathlib.Core.List.{List, [], _∷_}
-use Prim.Native.Nat.{ℕ, zero, suc, _+_, _*_, _≤_, _<_}
+use mathlib.Core.Path.{_≡_, refl}
+use mathlib.Core.List.{List, _∷_}
+use Prim.Native.Nat.{ℕ, suc, _+_, _*_, _≤_}
 use native.Mathlib.Omega.{arith}
 use lib.ListN.{length}
 use Rattle.vocabulary.specs.declared.end.End.{End}
@@ -19,18 +19,18 @@ use Rattle.vocabulary.specs.declared.value.Value.{Value}
 use Rattle.vocabulary.specs.declared.value.Value.the-variants.{Plain as plain}
 use Rattle.vocabulary.specs.World.{World}
 use Rattle.language.specs.declared.name.Entry.{Entry}
-use Rattle.language.specs.Tree.{Expression, Command, Declaration, sizeE, sizeC, sizeD}
+use Rattle.language.specs.Tree.{Declaration, sizeD}
 use Rattle.language.specs.Scope.{scopeAfter}
-use Rattle.language.specs.Translation.{behindE, behindC, behindD}
+use Rattle.language.specs.Translation.{behindD}
 use Rattle.language.specs.Outcomes.{Binding, Outcome, bind, plainly}
 use Rattle.language.specs.Outcomes.Outcome.{done, ended, cut, lost}
 use Rattle.language.specs.Meaning.{evalE, evalC, evalD}
 use Rattle.machine.specs.declared.tables.Bound.{Bound}
 use Rattle.machine.specs.State.{Config, config, State}
-use Rattle.machine.specs.State.State.{running, halted, broken}
+use Rattle.machine.specs.State.State.{running, halted}
 use Rattle.agreement.proofs.Steps.{Setup, Reach, stay, then}
 use Rattle.agreement.proofs.Placed.{Sort, expressions, plains, commands, declarations, Placed}
-use Rattle.agreement.proofs.Scene.{Corresponds, Scene, Waiting, on, Inside, AllInside, bodies, Fits}
+use Rattle.agreement.proofs.Scene.{Corresponds, Scene, Waiting, Inside, AllInside, bodies, Fits}
 
 -- what a kind of work leaves: at most one value more, a step to spare, and locations among the cells
 pub record Work (A : Type 0) : Type 1 where

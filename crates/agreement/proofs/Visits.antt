@@ -1,15 +1,14 @@
 -- The evaluator is metered: a line for each form, in the evaluator's own shape. From that, the number of visits is exact.
 use mathlib.Core.Path.{_≡_, refl, sym, _∙_, ap, subst}
 use mathlib.Core.List.{List, [], _∷_}
-use mathlib.Core.Bool.{Bool, true, false}
+use mathlib.Core.Bool.{true, false}
 use mathlib.Core.Logic.{_⊎_, inl, inr}
-use Prim.Native.Nat.{ℕ, zero, suc, _+_, _-_, _≤_, _<_}
+use Prim.Native.Nat.{ℕ, suc, _+_, _-_, _≤_, _<_}
 use native.Mathlib.Nat.{zero-add}
 use native.Mathlib.Decide.{decLe}
 use native.Mathlib.Omega.{arith}
 use Rattle.vocabulary.specs.declared.end.End.{End}
 use Rattle.vocabulary.specs.declared.end.End.the-variants.{Halt}
-use Rattle.vocabulary.specs.declared.value.Plain.the-variants.{Number, Truth}
 use Rattle.vocabulary.specs.declared.value.Value.the-variants.{Plain as plain}
 use Rattle.vocabulary.specs.World.{World, Rules, hasRoom}
 use Rattle.language.specs.Tree.{Expression, Command, Declaration, nodeC}
@@ -20,9 +19,9 @@ use Rattle.language.specs.Outcomes.{Binding, Outcome, find}
 use Rattle.language.specs.Outcomes.Binding.{binding}
 use Rattle.language.specs.Outcomes.Denoted.{value}
 use Rattle.language.specs.Outcomes.Outcome.{done, ended, cut, lost}
-use Rattle.language.specs.Meaning.{Course, courseOf, meaning, evalE, evalC, evalD}
+use Rattle.language.specs.Meaning.{courseOf, meaning, evalE, evalC, evalD}
 use Rattle.language.specs.Meaning.Course.{finished, unfinished, meaningless}
-use Rattle.agreement.specs.Agreement.{Exact, ExactVisits}
+use Rattle.agreement.specs.Agreement.{ExactVisits}
 use Rattle.agreement.proofs.Metered.{Left, Longer, Metered, returns, binds, plainlies, takes, answers, values, puts, tests, locates, functions, procedures, metering}
 
 module _ (R : Rules) where

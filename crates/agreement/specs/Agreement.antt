@@ -13,7 +13,7 @@ use Rattle.language.specs.Names.{NamedC}
 use Rattle.language.specs.Translation.{program}
 use Rattle.language.specs.Meaning.{Course, meaning}
 use Rattle.language.specs.Meaning.Course.{finished, unfinished, meaningless}
-use Rattle.machine.specs.State.{Config, State}
+use Rattle.machine.specs.State.{Config}
 use Rattle.machine.specs.State.State.{running, halted, broken}
 use Rattle.machine.specs.Machine.{iterate, taken, start}
 
