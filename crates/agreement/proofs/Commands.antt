@@ -18,7 +18,7 @@ use Rattle.language.specs.Scope.{scopeAfter}
 use Rattle.language.specs.Translation.{behindE, behindC, behindD, plainEnd}
 use Rattle.language.specs.Outcomes.{bind, plainly, tested, located, putting, asProcedure}
 use Rattle.language.specs.Outcomes.Binding.{binding}
-use Rattle.language.specs.Outcomes.Denoted.{value}
+use Rattle.language.specs.Outcomes.Denoted.{procedureBody}
 use Rattle.language.specs.Outcomes.Found.{named}
 use Rattle.language.specs.Outcomes.Outcome.{done}
 use Rattle.language.specs.Meaning.{evalE, evalC}
@@ -148,24 +148,20 @@ module _ (S : Setup) where
               reach = also S Leave nd (then S (then S r₀ (d₁ .reach)) (d₂ .reach)) (qc .1 .0) (omega arith) refl;
               most = omega arith; least = omega arith; same = length-take (length (w .cells)) (w₂ .cells) ∙ omega arith; inside = tt })))
 
-    procedureCall-case : (nd f : ℕ) (a : Expression) → Claim (procedureCall nd f a)
-    unfolding evalC
-    procedureCall-case nd f a placed fits =
-        let n = placed .named .0 in
-        let q = procedure-at (S .code) _ _ _ _ (resolve (S .code) f (n .0) Procedure (Γ .corresponds) (n .1)) in
-        subst (λ F. Does S aCommand Γ K p (suc (behindE a p)) w (suc b) (suc (sizeE a)) (bind (evalE (S .rules) g a (Γ .bindings) w b) λ v w₁ b₁. asProcedure F λ y t rest. evalC (S .rules) g t (binding y (value v) ∷ rest) w₁ b₁)) (sym (q .is))
-        (calling S g (simE S g) commands aCommand (evalC (S .rules) g) ih Γ K p w b r hb nd f a Procedure n _ _ q (placed .named .1) (placed .stands) fits)
-
   next : (g : ℕ) → SimC S g → SimC S (suc g)
   unfolding evalC
   next g ih t Γ K p w zero r placed fits hb = is-cut S (omega arith)
   next g ih (assign nd a c) Γ K p w (suc b) r placed fits hb = assign-case g ih Γ K p w b r (omega arith) nd a c placed fits
   next g ih (output nd a) Γ K p w (suc b) r placed fits hb = output-case g ih Γ K p w b r (omega arith) nd a placed fits
-  next g ih (when nd a c d) Γ K p w (suc b) r placed fits hb = choosing S g (simE S g) commands aCommand (evalC (S .rules) g) ih Γ K p w b r (omega arith) nd a c d (placed .named) (placed .stands) fits
+  next g ih (when nd a c d) Γ K p w (suc b) r placed fits hb =
+      choosing S g (simE S g) commands aCommand (evalC (S .rules) g) ih Γ K p w b r (omega arith) nd a c d (placed .named) (placed .stands) fits
   next g ih (while nd a c) Γ K p w (suc b) r placed fits hb = while-case g ih Γ K p w b r (omega arith) nd a c placed fits
   next g ih (block nd d c) Γ K p w (suc b) r placed fits hb = block-case g ih Γ K p w b r (omega arith) nd d c placed fits
   next g ih (sequence nd a c) Γ K p w (suc b) r placed fits hb = sequence-case g ih Γ K p w b r (omega arith) nd a c placed fits
-  next g ih (procedureCall nd f a) Γ K p w (suc b) r placed fits hb = procedureCall-case g ih Γ K p w b r (omega arith) nd f a placed fits
+  next g ih (procedureCall nd f a) Γ K p w (suc b) r placed fits hb = 
+      let n = placed .named .0 in
+      calling S g (simE S g) commands aCommand (evalC (S .rules) g) ih Γ K p w b r (omega arith) asProcedure procedureBody (λ y t rest next. refl) nd f a Procedure n _
+      (procedure-at (S .code) _ _ _ _ (resolve (S .code) f (n .0) Procedure (Γ .corresponds) (n .1))) (placed .named .1) (placed .stands) fits
 
   pub simC : (g : ℕ) → SimC S g
   unfolding evalC

@@ -23,7 +23,7 @@ use Rattle.language.specs.Tree.Expression.{number, truth, read, name, operation
 use Rattle.language.specs.Translation.{behindE, plainEnd}
 use Rattle.language.specs.Outcomes.{bind, find, valued, asFunction, taken, answered}
 use Rattle.language.specs.Outcomes.Binding.{binding}
-use Rattle.language.specs.Outcomes.Denoted.{value}
+use Rattle.language.specs.Outcomes.Denoted.{functionBody}
 use Rattle.language.specs.Outcomes.Outcome.{done}
 use Rattle.language.specs.Meaning.{evalE}
 use Rattle.machine.specs.State.{Config, config, ahead, sides, ports, noted, fedIn}
@@ -96,16 +96,6 @@ module _ (S : Setup) where
         result x y (Ok q) w₂ b₂ s re most least e = is-done S s (record { reach = re; most = most; least = least; same = e; inside = tt })
         result x y (Err n) w₂ b₂ s re most least e = is-ended S s re (omega arith)
 
-    functionCall-case : (nd f : ℕ) (a : Expression) → Placed expressions (S .code) (functionCall nd f a) (Γ .scope) p →
-        Fits (S .room) (Γ .bindings) K w r (sizeE (functionCall nd f a)) →
-        Does S aValue Γ K p (behindE (functionCall nd f a) p) w (suc b) (sizeE (functionCall nd f a)) (evalE (S .rules) (suc g) (functionCall nd f a) (Γ .bindings) w (suc b))
-    unfolding evalE
-    functionCall-case nd f a placed fits =
-        let n = placed .named .0 in
-        let q = function-at (S .code) _ _ _ _ (resolve (S .code) f (n .0) Function (Γ .corresponds) (n .1)) in
-        subst (λ F. Does S aValue Γ K p (suc (behindE a p)) w (suc b) (suc (sizeE a)) (bind (evalE (S .rules) g a (Γ .bindings) w b) λ v w₁ b₁. asFunction F λ y t rest. evalE (S .rules) g t (binding y (value v) ∷ rest) w₁ b₁)) (sym (q .is))
-        (calling S g ih expressions aValue (evalE (S .rules) g) ih Γ K p w b r hb nd f a Function n _ _ q (placed .named .1) (placed .stands) fits)
-
   next : (g : ℕ) → SimE S g → SimE S (suc g)
   unfolding evalE
   next g ih t Γ K p w zero r placed fits hb = is-cut S (omega arith)
@@ -114,8 +104,12 @@ module _ (S : Setup) where
   next g ih (read nd) Γ K p w (suc b) r placed fits hb = read-case Γ K p w b r nd (w .feed) refl fits (placed .stands .0)
   next g ih (name nd x) Γ K p w (suc b) r placed fits hb = name-case Γ K p w b r nd x fits placed
   next g ih (operation nd o a c) Γ K p w (suc b) r placed fits hb = operation-case g ih Γ K p w b r (omega arith) nd o a c placed fits
-  next g ih (functionCall nd f a) Γ K p w (suc b) r placed fits hb = functionCall-case g ih Γ K p w b r (omega arith) nd f a placed fits
-  next g ih (choice nd a c d) Γ K p w (suc b) r placed fits hb = choosing S g ih expressions aValue (evalE (S .rules) g) ih Γ K p w b r (omega arith) nd a c d (placed .named) (placed .stands) fits
+  next g ih (functionCall nd f a) Γ K p w (suc b) r placed fits hb = 
+      let n = placed .named .0 in
+      calling S g ih expressions aValue (evalE (S .rules) g) ih Γ K p w b r (omega arith) asFunction functionBody (λ y t rest next. refl) nd f a Function n _
+      (function-at (S .code) _ _ _ _ (resolve (S .code) f (n .0) Function (Γ .corresponds) (n .1))) (placed .named .1) (placed .stands) fits
+  next g ih (choice nd a c d) Γ K p w (suc b) r placed fits hb =
+      choosing S g ih expressions aValue (evalE (S .rules) g) ih Γ K p w b r (omega arith) nd a c d (placed .named) (placed .stands) fits
 
   pub simE : (g : ℕ) → SimE S g
   unfolding evalE

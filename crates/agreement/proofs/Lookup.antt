@@ -101,22 +101,29 @@ module _ (prog : List Word) (bs : List Binding) (m : List Bound) (d : ℕ) (f : 
       go (procedureBody y t) is role match inside = let z : _≡_ {A = ℕ} 0 1 = cc in absurd (omega arith)
       go (functionBody y t) is role match inside = let z : _≡_ {A = ℕ} 0 1 = cc in absurd (omega arith)
 
+  -- what is denoted in the role of a routine is a body of its sort
+  abbrev Body-of : {T : Type 0} → Sort T → (ℕ → T → Denoted) → Role → Type 0
+  Body-of {T} σ routine role = (sc : List Entry) (bound : Bound) (th : Denoted) → roleOf th ≡ role → Match prog sc th bound →
+      (y : ℕ) × (t : T) × (th ≡ routine y t) × (weight th ≡ σ .size t) × BodyAt σ prog t (scopeInside y sc) bound
+
+  routine-at : {T : Type 0} (σ : Sort T) (routine : ℕ → T → Denoted) (role : Role) → Body-of σ routine role → Resolved prog bs m d role f → RoutineAt σ routine
+  routine-at σ routine role body-of q =
+      let x = body-of (q .scope) (q .bound) (q .denoted) (q .role) (q .match) in let e = x .3 in let fewer = q .fewer in record {
+        parameter = x .0; tree = x .1; rest = q .rest; scope = q .scope; bound = q .bound; is = q .is ∙ ap (λ th. named th (q .rest)) (x .2);
+        slot = q .slot; body = x .4; behind = q .behind; fewer = omega arith; inside = λ n g. q .inside n g .1 }
+
   pub procedure-at : Resolved prog bs m d Procedure f → RoutineAt commands procedureBody
-  procedure-at q = go (q .denoted) (q .is) (q .role) (q .match) (q .fewer)
+  procedure-at q = routine-at commands procedureBody Procedure body-of q
     where
-      go : (th : Denoted) → f ≡ named th (q .rest) → roleOf th ≡ Procedure → Match prog (q .scope) th (q .bound) → weight th + bodies (q .rest) ≤ bodies bs → RoutineAt commands procedureBody
-      go (denotes v) is role match fewer = let z : _≡_ {A = ℕ} 0 1 = cc in absurd (omega arith)
-      go (functionBody y t) is role match fewer = let z : _≡_ {A = ℕ} 0 1 = cc in absurd (omega arith)
-      go (procedureBody y t) is role match fewer = record {
-          parameter = y; tree = t; rest = q .rest; scope = q .scope; bound = q .bound; is = is; slot = q .slot; body = match;
-          behind = q .behind; fewer = fewer; inside = λ n g. q .inside n g .1 }
+      body-of : Body-of commands procedureBody Procedure
+      body-of sc bound (denotes v) role match = let z : _≡_ {A = ℕ} 0 1 = cc in absurd (omega arith)
+      body-of sc bound (procedureBody y t) role match = (y, t, refl, refl, match)
+      body-of sc bound (functionBody y t) role match = let z : _≡_ {A = ℕ} 0 1 = cc in absurd (omega arith)
 
   pub function-at : Resolved prog bs m d Function f → RoutineAt expressions functionBody
-  function-at q = go (q .denoted) (q .is) (q .role) (q .match) (q .fewer)
+  function-at q = routine-at expressions functionBody Function body-of q
     where
-      go : (th : Denoted) → f ≡ named th (q .rest) → roleOf th ≡ Function → Match prog (q .scope) th (q .bound) → weight th + bodies (q .rest) ≤ bodies bs → RoutineAt expressions functionBody
-      go (denotes v) is role match fewer = let z : _≡_ {A = ℕ} 0 1 = cc in absurd (omega arith)
-      go (procedureBody y t) is role match fewer = let z : _≡_ {A = ℕ} 0 1 = cc in absurd (omega arith)
-      go (functionBody y t) is role match fewer = record {
-          parameter = y; tree = t; rest = q .rest; scope = q .scope; bound = q .bound; is = is; slot = q .slot; body = match;
-          behind = q .behind; fewer = fewer; inside = λ n g. q .inside n g .1 }
+      body-of : Body-of expressions functionBody Function
+      body-of sc bound (denotes v) role match = let z : _≡_ {A = ℕ} 0 1 = cc in absurd (omega arith)
+      body-of sc bound (procedureBody y t) role match = let z : _≡_ {A = ℕ} 0 1 = cc in absurd (omega arith)
+      body-of sc bound (functionBody y t) role match = (y, t, refl, refl, match)

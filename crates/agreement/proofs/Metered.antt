@@ -158,13 +158,18 @@ visits {A} {B} {n} {n′} {w} e e′ p = record { low = below n e (p .low); low�
     longer zero j h = subst (λ i. Longer j (n 0) (n′ i)) (sym (zero-add j)) (subst (λ o. Longer j o (n′ j)) (sym e) (fewer j))
     longer (suc b) j h = subst (λ i. Longer j (n (suc b)) (n′ i)) (sym (suc-add b j)) (p .longer b j (omega arith))
 
--- an evaluator of any sort of tree, from what it does once a node has begun
+-- an evaluator of any sort of tree at depths g and h; and what it does once a node has begun
+abbrev pub Meters : {T A : Type 0} → (ℕ → T → List Binding → World → ℕ → Outcome A) → ℕ → ℕ → Type 0
+Meters {T} eval g h = (t : T) (bs : List Binding) (w : World) → Metered g (eval g t bs w) (eval h t bs w)
+
+abbrev pub Begins : {T A : Type 0} → (ℕ → T → List Binding → World → ℕ → Outcome A) → Type 0
+Begins {T} eval = (g h : ℕ) → g ≤ h → Meters eval g h →
+    (t : T) (bs : List Binding) (w : World) → Metered g (λ b. eval (suc g) t bs w (suc b)) (λ b. eval (suc h) t bs w (suc b))
+
 pub metering : {T A : Type 0} (eval : ℕ → T → List Binding → World → ℕ → Outcome A) →
     ((t : T) (bs : List Binding) (w : World) (b : ℕ) → eval 0 t bs w b ≡ cut w) →
     ((g : ℕ) (t : T) (bs : List Binding) (w : World) → eval (suc g) t bs w 0 ≡ cut w) →
-    ((g h : ℕ) → g ≤ h → ((t : T) (bs : List Binding) (w : World) → Metered g (eval g t bs w) (eval h t bs w)) →
-      (t : T) (bs : List Binding) (w : World) → Metered g (λ b. eval (suc g) t bs w (suc b)) (λ b. eval (suc h) t bs w (suc b))) →
-    (g h : ℕ) → g ≤ h → (t : T) (bs : List Binding) (w : World) → Metered g (eval g t bs w) (eval h t bs w)
+    Begins eval → (g h : ℕ) → g ≤ h → Meters eval g h
 metering eval at-zero no-visit begun zero zero l t bs w =
     record {
       low = λ b. subst (Left (λ c. c ≤ b)) (sym (at-zero t bs w b)) tt;

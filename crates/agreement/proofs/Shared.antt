@@ -23,6 +23,7 @@ use Rattle.language.specs.Translation.{one, behindE, plainEnd, codeE, plainCode
 use Rattle.language.specs.Outcomes.{Denoted, Binding, Found, Outcome, bind, deref, orLost, plainly, tested}
 use Rattle.language.specs.Outcomes.Binding.{binding}
 use Rattle.language.specs.Outcomes.Denoted.{value}
+use Rattle.language.specs.Outcomes.Found.{named}
 use Rattle.language.specs.Meaning.{evalE}
 use Rattle.machine.specs.declared.tables.Bound.the-variants.{Holds}
 use Rattle.machine.specs.State.{Config, config, ahead, sides}
@@ -80,12 +81,12 @@ module _ (S : Setup) (g : ℕ) (simE : SimE S g) where
         Fits (S .room) (Γ .bindings) K w r (suc (sizeE a + σ .size c + σ .size d)) →
         Does S k Γ K p (σ .behind d q₁) w (suc b) (suc (sizeE a + σ .size c + σ .size d))
         (bind (plainly (evalE (S .rules) g a (Γ .bindings) w b)) λ x w₁ b₁. tested nd x w₁ b₁ λ t. elim t [ true ↦ eval c (Γ .bindings) w₁ b₁ | false ↦ eval d (Γ .bindings) w₁ b₁ ]))
-    choosing nd a c d named stands fits =
+    choosing nd a c d visible stands fits =
         let q = suc (plainEnd a (behindE a p)) in
-        let pa = part (S .code) plains a (Γ .scope) p _ (named .0) stands in
-        let pc = part (S .code) σ c (Γ .scope) q _ (named .1) (pa .1 .1) in
+        let pa = part (S .code) plains a (Γ .scope) p _ (visible .0) stands in
+        let pc = part (S .code) σ c (Γ .scope) q _ (visible .1) (pa .1 .1) in
         andThen S _ (stay S) (omega arith) (omega arith) (simPlain a Γ K p w b r (pa .0) (fits-part w (sizeE a) fits refl (omega arith)) hb)
-        (λ x w₁ b₁ s₁ d₁. go (pa .1 .0) (pc .0) (pc .1 .0) (record { named = named .2; stands = pc .1 .1 }) x w₁ b₁ s₁ d₁)
+        (λ x w₁ b₁ s₁ d₁. go (pa .1 .0) (pc .0) (pc .1 .0) (record { named = visible .2; stands = pc .1 .1 }) x w₁ b₁ s₁ d₁)
       where
         q : ℕ
         q = suc (plainEnd a (behindE a p))
@@ -109,14 +110,15 @@ module _ (S : Setup) (g : ℕ) (simE : SimE S g) where
               reach = then S r₁ (d₂ .reach);
               most = omega arith; least = omega arith; same = d₂ .same ∙ d₁ .same; inside = subst (λ n. k .In n a) (d₁ .same) (d₂ .inside) }))
 
-    -- both calls: the argument, CALL, the body under its own scene, and RET
-    pub calling : (nd f : ℕ) (a : Expression) (role : Role) (n : Names (Γ .scope) f role) (F : Found) (routine : ℕ → T → Denoted)
-        (q : RoutineAt (S .code) (Γ .bindings) (Γ .environment) (n .0) F σ routine) → NamedE a (Γ .scope) →
-        Stands (S .code) p (codeE a (Γ .scope) p ++ one (Call (newerOf (placeOf (Γ .scope) f))) nd) → Fits (S .room) (Γ .bindings) K w r (suc (sizeE a)) →
+    -- both calls: the argument, CALL, the body under its own scene, and RET. `asRoutine` is what the source makes of what it finds
+    pub calling : (asRoutine : Found → (ℕ → T → List Binding → Outcome A) → Outcome A) (routine : ℕ → T → Denoted) →
+        ((y : ℕ) (t : T) (rest : List Binding) (next : ℕ → T → List Binding → Outcome A) → asRoutine (named (routine y t) rest) next ≡ next y t rest) →
+        (nd f : ℕ) (a : Expression) (role : Role) (n : Names (Γ .scope) f role) (F : Found) → RoutineAt (S .code) (Γ .bindings) (Γ .environment) (n .0) F σ routine →
+        NamedE a (Γ .scope) → Stands (S .code) p (codeE a (Γ .scope) p ++ one (Call (newerOf (placeOf (Γ .scope) f))) nd) → Fits (S .room) (Γ .bindings) K w r (suc (sizeE a)) →
         Does S k Γ K p (suc (behindE a p)) w (suc b) (suc (sizeE a))
-        (bind (evalE (S .rules) g a (Γ .bindings) w b) λ v w₁ b₁. eval (q .tree) (binding (q .parameter) (value v) ∷ q .rest) w₁ b₁)
-    calling nd f a role n F routine q named stands fits =
-        let pa = part (S .code) expressions a (Γ .scope) p _ named stands in
+        (bind (evalE (S .rules) g a (Γ .bindings) w b) λ v w₁ b₁. asRoutine F λ y t rest. eval t (binding y (value v) ∷ rest) w₁ b₁)
+    calling asRoutine routine goes-on nd f a role n F q visible stands fits =
+        let pa = part (S .code) expressions a (Γ .scope) p _ visible stands in
         let i = operand-is (S .code) Call (behindE a p) nd (Γ .scope) f role n (pa .1 .0) in
         andThen S _ (stay S) (omega arith) (omega arith)
         (simE a Γ K p w b r (pa .0) (fits-part w (sizeE a) fits refl (omega arith)) hb)
@@ -130,11 +132,13 @@ module _ (S : Setup) (g : ℕ) (simE : SimE S g) where
           let r₁ : Reach S (at S Γ K p w) (s₁ + 1) (at S Γ₁ K₁ (q .body .start) w₁) =
             also S _ nd (d₁ .reach) i (omega arith)
             (noting nd (sides c) (call-with-room (S .rules .limit) v (n .0) (q .body .start) (withStack (K .values) (ahead c)) (q .slot ∙ ap Some (q .body .is)) (omega arith) (omega arith))) in
-          lastly S r₁ (omega arith) (omega arith)
+          subst (λ o. Does S k Γ K p (suc (behindE a p)) w (suc b) (suc (sizeE a)) o)
+          (sym (ap (λ F. asRoutine F λ y t rest. eval t (binding y (value v) ∷ rest) w₁ b₁) (q .is) ∙ goes-on (q .parameter) (q .tree) (q .rest) (λ y t rest. eval t (binding y (value v) ∷ rest) w₁ b₁)))
+          (lastly S r₁ (omega arith) (omega arith)
           (sim (q .tree) Γ₁ K₁ (q .body .start) w₁ b₁ (suc r) (q .body .placed)
             (record {
               inside = (subst (λ n. Inside n v) (sym (d₁ .same)) (d₁ .inside), all-inside-more _ _ (omega arith) (q .rest) (q .inside _ (fits .inside)));
               values = omega arith; used = omega arith; dump = omega arith; cells = omega arith; enough = omega arith }) (omega arith))
           (λ x w₂ b₂ s₂ d₂. let f = k .few x (K .values) in (s₁ + 1 + s₂ + 1, record {
             reach = also S _ (q .body .node) (then S r₁ (d₂ .reach)) (q .body .returns) (omega arith) refl;
-            most = omega arith; least = omega arith; same = d₂ .same ∙ d₁ .same; inside = subst (λ n. k .In n x) (d₁ .same) (d₂ .inside) })))
+            most = omega arith; least = omega arith; same = d₂ .same ∙ d₁ .same; inside = subst (λ n. k .In n x) (d₁ .same) (d₂ .inside) }))))

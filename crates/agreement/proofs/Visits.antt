@@ -22,11 +22,10 @@ use Rattle.language.specs.Outcomes.Outcome.{done, ended, cut, lost}
 use Rattle.language.specs.Meaning.{courseOf, meaning, evalE, evalC, evalD}
 use Rattle.language.specs.Meaning.Course.{finished, unfinished, meaningless}
 use Rattle.agreement.specs.Agreement.{ExactVisits}
-use Rattle.agreement.proofs.Metered.{Left, Longer, Metered, returns, binds, plainlies, takes, answers, values, puts, tests, locates, functions, procedures, metering}
+use Rattle.agreement.proofs.Metered.{Left, Longer, Metered, Meters, Begins, returns, binds, plainlies, takes, answers, values, puts, tests, locates, functions, procedures, metering}
 
 module _ (R : Rules) where
-  begunE : (g h : ℕ) → g ≤ h → ((t : Expression) (bs : List Binding) (w : World) → Metered g (evalE R g t bs w) (evalE R h t bs w)) →
-      (t : Expression) (bs : List Binding) (w : World) → Metered g (λ b. evalE R (suc g) t bs w (suc b)) (λ b. evalE R (suc h) t bs w (suc b))
+  begunE : Begins (evalE R)
   unfolding evalE
   begunE g h l ih (number nd z) bs w = returns
   begunE g h l ih (truth nd t) bs w = returns
@@ -39,12 +38,11 @@ module _ (R : Rules) where
   begunE g h l ih (choice nd a c d) bs w =
       binds (plainlies (ih a bs w)) λ x w₁. tests nd x w₁ (elim [ true ↦ ih c bs w₁ | false ↦ ih d bs w₁ ])
 
-  meterE : (g h : ℕ) → g ≤ h → (t : Expression) (bs : List Binding) (w : World) → Metered g (evalE R g t bs w) (evalE R h t bs w)
+  meterE : (g h : ℕ) → g ≤ h → Meters (evalE R) g h
   unfolding evalE
-  meterE g h l t bs w = metering (evalE R) (λ t bs w b. refl) (λ g t bs w. refl) begunE g h l t bs w
+  meterE = metering (evalE R) (λ t bs w b. refl) (λ g t bs w. refl) begunE
 
-  begunD : (g h : ℕ) → g ≤ h → ((t : Declaration) (bs : List Binding) (w : World) → Metered g (evalD R g t bs w) (evalD R h t bs w)) →
-      (t : Declaration) (bs : List Binding) (w : World) → Metered g (λ b. evalD R (suc g) t bs w (suc b)) (λ b. evalD R (suc h) t bs w (suc b))
+  begunD : Begins (evalD R)
   unfolding evalD
   begunD g h l ih (constant nd x a) bs w = binds (plainlies (meterE g h l a bs w)) λ p w₁. returns
   begunD g h l ih (variable nd x a) bs w = binds (plainlies (meterE g h l a bs w)) λ p w₁. returns
@@ -52,12 +50,11 @@ module _ (R : Rules) where
   begunD g h l ih (function nd x t y) bs w = returns
   begunD g h l ih (pair nd a c) bs w = binds (ih a bs w) λ bs₁ w₁. ih c bs₁ w₁
 
-  meterD : (g h : ℕ) → g ≤ h → (t : Declaration) (bs : List Binding) (w : World) → Metered g (evalD R g t bs w) (evalD R h t bs w)
+  meterD : (g h : ℕ) → g ≤ h → Meters (evalD R) g h
   unfolding evalD
-  meterD g h l t bs w = metering (evalD R) (λ t bs w b. refl) (λ g t bs w. refl) begunD g h l t bs w
+  meterD = metering (evalD R) (λ t bs w b. refl) (λ g t bs w. refl) begunD
 
-  begunC : (g h : ℕ) → g ≤ h → ((t : Command) (bs : List Binding) (w : World) → Metered g (evalC R g t bs w) (evalC R h t bs w)) →
-      (t : Command) (bs : List Binding) (w : World) → Metered g (λ b. evalC R (suc g) t bs w (suc b)) (λ b. evalC R (suc h) t bs w (suc b))
+  begunC : Begins (evalC R)
   unfolding evalC
   begunC g h l ih (assign nd a c) bs w =
       binds (meterE g h l a bs w) λ v w₁. locates nd v w₁ λ i. binds (plainlies (meterE g h l c bs w₁)) λ p w₂. returns
@@ -74,9 +71,9 @@ module _ (R : Rules) where
   begunC g h l ih (procedureCall nd f a) bs w =
       binds (meterE g h l a bs w) λ v w₁. procedures (find bs f) λ y t rest. ih t (binding y (value v) ∷ rest) w₁
 
-  meterC : (g h : ℕ) → g ≤ h → (t : Command) (bs : List Binding) (w : World) → Metered g (evalC R g t bs w) (evalC R h t bs w)
+  meterC : (g h : ℕ) → g ≤ h → Meters (evalC R) g h
   unfolding evalC
-  meterC g h l t bs w = metering (evalC R) (λ t bs w b. refl) (λ g t bs w. refl) begunC g h l t bs w
+  meterC = metering (evalC R) (λ t bs w b. refl) (λ g t bs w. refl) begunC
 
 -- what an outcome says of one with j visits more
 finished-longer : (nd j : ℕ) (o o′ : Outcome (Unit {0})) → Longer j o o′ → (e : End) (n : ℕ) (w′ : World) (c : ℕ) →

@@ -97,27 +97,27 @@ module _ (R : Rules) (t : Command) (w : World) (fits : sizeC t ≤ R .limit) whe
       (subst (Grew (c .world)) (v .2) (subst (Since (c .world)) (z ∙ v .1) (since s d s₁ c h x)))
   first-part s d s₁ c meaningless y h x z v = absurd v
 
-  module _ (told : (k : ℕ) → Says k (meaning R t w k)) where
-    -- the state at s, when the course at k shows at a later state, or at an earlier one that has ended
-    fate-before : (s d s₁ k : ℕ) (x : State) (V : Course) → state s ≡ x → s₁ ≡ s + d → meaning R t w k ≡ V → Shows V (state s₁) → Roomy (sizeC t) x → Fate x
-    fate-before s d s₁ k (running c) V h e m v roomy = (roomy, (k, subst (FirstPartOf w (c .world)) (sym m) (first-part s d s₁ c V (state s₁) h e refl v)))
-    fate-before s d s₁ k (halted f n u) V h e m v roomy = same V m v
-      where
-        stays : state s₁ ≡ halted f n u
-        stays = onward R (program t) s d s₁ (start w) _ h e ∙ halted-stays R (program t) d f n u
-        same : (V : Course) → meaning R t w k ≡ V → Shows V (state s₁) → Fate (halted f n u)
-        same (finished f₁ n₁ u₁ b) m v = let z : halted f n u ≡ halted f₁ n₁ u₁ = sym stays ∙ v in (k, b, cc)
-        same (unfinished u₁) m v = let y : running (v .0) ≡ halted f n u = sym (v .1) ∙ stays in let z : _≡_ {A = ℕ} 0 1 = cc y in absurd (omega arith)
-        same meaningless m v = absurd v
-    fate-before s d s₁ k broken V h e m v roomy = none V v
-      where
-        stays : state s₁ ≡ broken
-        stays = onward R (program t) s d s₁ (start w) _ h e ∙ broken-stays R (program t) d
-        none : (V : Course) → Shows V (state s₁) → ⊥
-        none (finished f n u b) v = let y : broken ≡ halted f n u = sym stays ∙ v in let z : _≡_ {A = ℕ} 0 1 = cc y in omega arith
-        none (unfinished u) v = let y : running (v .0) ≡ broken = sym (v .1) ∙ stays in let z : _≡_ {A = ℕ} 0 1 = cc y in omega arith
-        none meaningless v = v
+  -- the state at s, when the course at k shows at a later state, or at an earlier one that has ended
+  fate-before : (s d s₁ k : ℕ) (x : State) (V : Course) → state s ≡ x → s₁ ≡ s + d → meaning R t w k ≡ V → Shows V (state s₁) → Roomy (sizeC t) x → Fate x
+  fate-before s d s₁ k (running c) V h e m v roomy = (roomy, (k, subst (FirstPartOf w (c .world)) (sym m) (first-part s d s₁ c V (state s₁) h e refl v)))
+  fate-before s d s₁ k (halted f n u) V h e m v roomy = same V m v
+    where
+      stays : state s₁ ≡ halted f n u
+      stays = onward R (program t) s d s₁ (start w) _ h e ∙ halted-stays R (program t) d f n u
+      same : (V : Course) → meaning R t w k ≡ V → Shows V (state s₁) → Fate (halted f n u)
+      same (finished f₁ n₁ u₁ b) m v = let z : halted f n u ≡ halted f₁ n₁ u₁ = sym stays ∙ v in (k, b, cc)
+      same (unfinished u₁) m v = let y : running (v .0) ≡ halted f n u = sym (v .1) ∙ stays in let z : _≡_ {A = ℕ} 0 1 = cc y in absurd (omega arith)
+      same meaningless m v = absurd v
+  fate-before s d s₁ k broken V h e m v roomy = none V v
+    where
+      stays : state s₁ ≡ broken
+      stays = onward R (program t) s d s₁ (start w) _ h e ∙ broken-stays R (program t) d
+      none : (V : Course) → Shows V (state s₁) → ⊥
+      none (finished f n u b) v = let y : broken ≡ halted f n u = sym stays ∙ v in let z : _≡_ {A = ℕ} 0 1 = cc y in omega arith
+      none (unfinished u) v = let y : running (v .0) ≡ broken = sym (v .1) ∙ stays in let z : _≡_ {A = ℕ} 0 1 = cc y in omega arith
+      none meaningless v = v
 
+  module _ (told : (k : ℕ) → Says k (meaning R t w k)) where
     -- so many visits that the machine has made more than s steps, unless it has ended
     abbrev plenty : ℕ → ℕ
     plenty s = 2 * s + sizeC t + 3
