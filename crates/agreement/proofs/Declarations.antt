@@ -52,9 +52,20 @@ module _ (S : Setup) where
         s + 3 * c ≤ 3 * b → b + 1 ≤ 2 * s + c → length (w .cells) ≤ length (w₁ .cells) → length (w₁ .cells) ≤ suc r →
         Declares S Γ K p q w b r z (entry x (roleOf th) ∷ Γ .scope) (done (binding x th ∷ Γ .bindings) w₁ c)
     one-binding q z x th bound w₁ c s fits lighter match inside reach most least kept few = is-done S s (record {
-        environment = bound ∷ Γ .environment; used = suc (K .used); r′ = suc r; corresponds = more x th bound match (Γ .corresponds);
-        reach = reach; most = most; least = least; kept = kept; inside = (inside, all-inside-more _ _ kept (Γ .bindings) (fits .inside));
-        fewUsed = omega arith; fewCells = few; higher = omega arith; enough = omega arith })
+      environment = bound ∷ Γ .environment;
+      used = suc (K .used);
+      r′ = suc r;
+      corresponds = more x th bound match (Γ .corresponds);
+      reach = reach;
+      most = most;
+      least = least;
+      kept = kept;
+      inside = (inside, all-inside-more _ _ kept (Γ .bindings) (fits .inside));
+      fewUsed = omega arith;
+      fewCells = few;
+      higher = omega arith;
+      enough = omega arith;
+    })
 
     -- a routine of a sort: CLOS binds the position of its body, and a jump leads around that
     routine-case : {T : Type 0} (σ : Sort T) (nd x y : ℕ) (t : T) (th : Denoted) (c : ℕ) → b ≡ suc c → weight th ≡ σ .size t → DenotesInside (length (w .cells)) th →
@@ -82,7 +93,7 @@ module _ (S : Setup) where
     binding-case : (i : Instruction) (nd x : ℕ) (a : Expression) (bound : Plain → World → Value) (after : Plain → World → World) →
         NamedE a (Γ .scope) → Stands (S .code) p (plainCode a (codeE a (Γ .scope) p) ++ one i nd) → Fits (S .room) (Γ .bindings) K w r (suc (sizeE a)) →
         ((v : Plain) (w₁ : World) → length (w₁ .cells) ≡ length (w .cells) →
-          Binds (S .rules) i nd (config (plainEnd a (behindE a p)) (plain v ∷ K .values) (Γ .environment) (K .used) (K .dump) w₁) (K .values) (bound v w₁) (after v w₁)) →
+        Binds (S .rules) i nd (config (plainEnd a (behindE a p)) (plain v ∷ K .values) (Γ .environment) (K .used) (K .dump) w₁) (K .values) (bound v w₁) (after v w₁)) →
         Declares S Γ K p (suc (plainEnd a (behindE a p))) w (suc b) r (suc (sizeE a)) (entry x valueRole ∷ Γ .scope)
         (bind (plainly (evalE (S .rules) g a (Γ .bindings) w b)) λ v w₁ b₁. done (binding x (value (bound v w₁)) ∷ Γ .bindings) (after v w₁) b₁)
     binding-case i nd x a bound after visible stands fits binds =
@@ -90,29 +101,35 @@ module _ (S : Setup) where
         andThen S _ (stay S) (omega arith) (omega arith)
         (simPlain S g (simE S g) a Γ K p w b r (qa .0) (fits-part w (sizeE a) fits refl (omega arith)) hb)
         (λ v w₁ b₁ s₁ d₁.
-          let e = binds v w₁ (d₁ .same) in
-          one-binding Γ K p w (suc b) r _ _ x (value (bound v w₁)) (Holds (bound v w₁)) (after v w₁) b₁ (s₁ + 1) fits (omega arith) refl (e .inside)
-          (also S i nd (d₁ .reach) (qa .1 .0) (omega arith) (e .does)) (omega arith) (omega arith) (omega arith) (omega arith))
+        let e = binds v w₁ (d₁ .same) in
+        one-binding Γ K p w (suc b) r _ _ x (value (bound v w₁)) (Holds (bound v w₁)) (after v w₁) b₁ (s₁ + 1) fits (omega arith) refl (e .inside)
+        (also S i nd (d₁ .reach) (qa .1 .0) (omega arith) (e .does)) (omega arith) (omega arith) (omega arith) (omega arith))
 
     constant-case : (nd x : ℕ) (a : Expression) → Claim (constant nd x a)
     unfolding evalD
     constant-case nd x a placed fits =
         binding-case Bind nd x a (λ v w₁. plain v) (λ v w₁. w₁) (placed .named) (placed .stands) fits
         (λ v w₁ e.
-          let here : Config = config (plainEnd a (behindE a p)) (plain v ∷ K .values) (Γ .environment) (K .used) (K .dump) w₁ in record {
-            does = noting nd (sides here) (bind-with-room (S .rules .limit) (Holds (plain v)) (withStack (K .values) (ahead here)) (omega arith));
-            kept = omega arith; few = omega arith; inside = tt })
+        let here : Config = config (plainEnd a (behindE a p)) (plain v ∷ K .values) (Γ .environment) (K .used) (K .dump) w₁ in record {
+          does = noting nd (sides here) (bind-with-room (S .rules .limit) (Holds (plain v)) (withStack (K .values) (ahead here)) (omega arith));
+          kept = omega arith;
+          few = omega arith;
+          inside = tt;
+        })
 
     variable-case : (nd x : ℕ) (a : Expression) → Claim (variable nd x a)
     unfolding evalD
     variable-case nd x a placed fits =
         binding-case New nd x a (λ v w₁. Location (length (w₁ .cells))) (λ v w₁. withCells w₁ (w₁ .cells ++ (v ∷ []))) (placed .named) (placed .stands) fits
         (λ v w₁ e.
-          let here : Config = config (plainEnd a (behindE a p)) (plain v ∷ K .values) (Γ .environment) (K .used) (K .dump) w₁ in
-          let longer : length (w₁ .cells ++ (v ∷ [])) ≡ length (w₁ .cells) + 1 = length-append (w₁ .cells) (v ∷ []) in record {
-            does = noting nd (sides here) (with-room (length (w₁ .cells)) (S .rules .limit) _ (omega arith)
+        let here : Config = config (plainEnd a (behindE a p)) (plain v ∷ K .values) (Γ .environment) (K .used) (K .dump) w₁ in
+        let longer : length (w₁ .cells ++ (v ∷ [])) ≡ length (w₁ .cells) + 1 = length-append (w₁ .cells) (v ∷ []) in record {
+          does = noting nd (sides here) (with-room (length (w₁ .cells)) (S .rules .limit) _ (omega arith)
               ∙ bind-with-room (S .rules .limit) (Holds (Location (length (w₁ .cells)))) (withStore (w₁ .cells ++ (v ∷ [])) (withStack (K .values) (ahead here))) (omega arith));
-            kept = omega arith; few = omega arith; inside = omega arith })
+          kept = omega arith;
+          few = omega arith;
+          inside = omega arith;
+        })
 
     pair-case : SimD S g → (nd : ℕ) (a c : Declaration) → Claim (pair nd a c)
     unfolding evalD
@@ -121,16 +138,29 @@ module _ (S : Setup) where
         andThen S _ (stay S) (omega arith) (omega arith)
         (ih a Γ K p w b r (qa .0) (fits-part w (sizeD a) fits refl (omega arith)) hb)
         (λ bs w₁ b₁ s₁ d₁.
-          let Γ₁ : Scene (S .code) = record { scope = scopeAfter a (Γ .scope); bindings = bs; environment = d₁ .environment; corresponds = d₁ .corresponds } in
-          let K₁ : Waiting = record { values = K .values; used = d₁ .used; dump = K .dump } in
-          lastly S (d₁ .reach) (omega arith) (omega arith)
-          (ih c Γ₁ K₁ (behindD a p) w₁ b₁ (d₁ .r′) (record { named = placed .named .1; stands = qa .1 })
-            (record { inside = d₁ .inside; values = omega arith; used = d₁ .fewUsed; dump = omega arith; cells = d₁ .fewCells; enough = omega arith }) (omega arith))
-          (λ bs₂ w₂ b₂ s₂ d₂.
-            (s₁ + s₂, record {
-              environment = d₂ .environment; used = d₂ .used; r′ = d₂ .r′; corresponds = d₂ .corresponds; reach = then S (d₁ .reach) (d₂ .reach);
-              most = omega arith; least = omega arith; kept = omega arith; inside = d₂ .inside; fewUsed = d₂ .fewUsed; fewCells = d₂ .fewCells;
-              higher = omega arith; enough = omega arith })))
+        let Γ₁ : Scene (S .code) = record { scope = scopeAfter a (Γ .scope); bindings = bs; environment = d₁ .environment; corresponds = d₁ .corresponds } in
+        let K₁ : Waiting = record { values = K .values; used = d₁ .used; dump = K .dump } in
+        lastly S (d₁ .reach) (omega arith) (omega arith)
+        (ih c Γ₁ K₁ (behindD a p) w₁ b₁ (d₁ .r′) (record { named = placed .named .1; stands = qa .1 })
+        (record { inside = d₁ .inside; values = omega arith; used = d₁ .fewUsed; dump = omega arith; cells = d₁ .fewCells; enough = omega arith }) (omega arith))
+        (λ bs₂ w₂ b₂ s₂ d₂. (
+          s₁ + s₂,
+          record {
+            environment = d₂ .environment;
+            used = d₂ .used;
+            r′ = d₂ .r′;
+            corresponds = d₂ .corresponds;
+            reach = then S (d₁ .reach) (d₂ .reach);
+            most = omega arith;
+            least = omega arith;
+            kept = omega arith;
+            inside = d₂ .inside;
+            fewUsed = d₂ .fewUsed;
+            fewCells = d₂ .fewCells;
+            higher = omega arith;
+            enough = omega arith;
+          },
+        )))
 
   next : (g : ℕ) → SimD S g → SimD S (suc g)
   unfolding evalD

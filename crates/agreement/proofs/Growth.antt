@@ -36,10 +36,16 @@ grew-nothing w = record { items = []; values = []; did = record { fed = refl; he
 -- what was done in two stretches
 pub grew-first-part : (u v w : World) → Grew u v → Grew v w → FirstPart u v w
 grew-first-part u v w f g = record {
-    items = f .items; values = f .values; moreItems = g .items; moreValues = g .values; part = f .did;
-    whole = record {
-      fed = f .did .fed ∙ (ap (λ l. f .items ++ l) (g .did .fed) ∙ sym (append-assoc (f .items) (g .items) (w .feed)));
-      held = g .did .held ∙ (ap (λ l. l ++ g .values) (f .did .held) ∙ append-assoc (u .strip) (f .values) (g .values)) } }
+  items = f .items;
+  values = f .values;
+  moreItems = g .items;
+  moreValues = g .values;
+  part = f .did;
+  whole = record {
+    fed = f .did .fed ∙ (ap (λ l. f .items ++ l) (g .did .fed) ∙ sym (append-assoc (f .items) (g .items) (w .feed)));
+    held = g .did .held ∙ (ap (λ l. l ++ g .values) (f .did .held) ∙ append-assoc (u .strip) (f .values) (g .values));
+  };
+}
 
 grew-both : (u v w : World) → Grew u v → Grew v w → Grew u w
 grew-both u v w f g = let p = grew-first-part u v w f g in record { items = _; values = _; did = p .whole }

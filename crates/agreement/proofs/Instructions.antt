@@ -38,7 +38,7 @@ bind-with-room limit e k h = with-room (k .bindings) limit _ h
 -- CALL of a body at position p, with room on the dump and for the argument
 pub call-with-room : (limit : ℕ) (v : Value) (d p : ℕ) (k : Core) → found (k .environment) d ≡ Some (Body p) → length (k .dump) < limit → k .bindings < limit →
     invoke limit v (found (k .environment) d) d k ≡ goes (core p (k .values) (Holds v ∷ drop (suc d) (k .environment)) (suc (k .bindings))
-        (frame (k .environment) (k .bindings) (k .position) ∷ k .dump) (k .cells))
+    (frame (k .environment) (k .bindings) (k .position) ∷ k .dump) (k .cells))
 call-with-room limit v d p k e hd hb =
     ap (λ o. invoke limit v o d k) e ∙ (with-room (length (k .dump)) limit _ hd ∙ with-room (k .bindings) limit _ hb)
 

@@ -67,8 +67,18 @@ resolve prog x d r (more {sc = sc} {bs = bs} {m = m} y th b h o) e =
         let q = rec (l .0) (l .1) in
         subst (λ k. Resolved prog (binding y th ∷ bs) (b ∷ m) k r (find bs x)) (l .2)
         (record {
-          denoted = q .denoted; rest = q .rest; scope = q .scope; bound = q .bound; is = q .is; role = q .role; slot = q .slot; match = q .match;
-          behind = q .behind; fewer = omega arith; inside = λ n g. q .inside n (g .1) })
+          denoted = q .denoted;
+          rest = q .rest;
+          scope = q .scope;
+          bound = q .bound;
+          is = q .is;
+          role = q .role;
+          slot = q .slot;
+          match = q .match;
+          behind = q .behind;
+          fewer = omega arith;
+          inside = λ n g. q .inside n (g .1);
+        })
 
 module _ (prog : List Word) (bs : List Binding) (m : List Bound) (d : ℕ) (f : Found) where
   -- a name that has to denote a value, and does
@@ -109,8 +119,18 @@ module _ (prog : List Word) (bs : List Binding) (m : List Bound) (d : ℕ) (f : 
   routine-at : {T : Type 0} (σ : Sort T) (routine : ℕ → T → Denoted) (role : Role) → Body-of σ routine role → Resolved prog bs m d role f → RoutineAt σ routine
   routine-at σ routine role body-of q =
       let x = body-of (q .scope) (q .bound) (q .denoted) (q .role) (q .match) in let e = x .3 in let fewer = q .fewer in record {
-        parameter = x .0; tree = x .1; rest = q .rest; scope = q .scope; bound = q .bound; is = q .is ∙ ap (λ th. named th (q .rest)) (x .2);
-        slot = q .slot; body = x .4; behind = q .behind; fewer = omega arith; inside = λ n g. q .inside n g .1 }
+        parameter = x .0;
+        tree = x .1;
+        rest = q .rest;
+        scope = q .scope;
+        bound = q .bound;
+        is = q .is ∙ ap (λ th. named th (q .rest)) (x .2);
+        slot = q .slot;
+        body = x .4;
+        behind = q .behind;
+        fewer = omega arith;
+        inside = λ n g. q .inside n g .1;
+      }
 
   pub procedure-at : Resolved prog bs m d Procedure f → RoutineAt commands procedureBody
   procedure-at q = routine-at commands procedureBody Procedure body-of q

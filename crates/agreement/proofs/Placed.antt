@@ -79,8 +79,12 @@ expressions = record { Named = NamedE; code = codeE; behind = behindE; ends = af
 -- expressions with the code that leaves their plain value
 abbrev pub plains : Sort Expression
 plains = record {
-    Named = NamedE; code = λ t sc p. plainCode t (codeE t sc p); behind = λ t p. plainEnd t (behindE t p);
-    ends = λ t sc p. simp (after-++, after-E t sc p); size = sizeE }
+  Named = NamedE;
+  code = λ t sc p. plainCode t (codeE t sc p);
+  behind = λ t p. plainEnd t (behindE t p);
+  ends = λ t sc p. simp (after-++, after-E t sc p);
+  size = sizeE;
+}
 
 abbrev pub commands : Sort Command
 commands = record { Named = NamedC; code = codeC; behind = behindC; ends = after-C; size = sizeC }

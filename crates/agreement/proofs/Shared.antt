@@ -56,18 +56,30 @@ module _ (S : Setup) (g : ℕ) (simE : SimE S g) where
     where
       here : Value → World → Config
       here v w₁ = config (behindE t p) (v ∷ K .values) (Γ .environment) (K .used) (K .dump) w₁
+
       some : 1 ≤ sizeE t
       some = a-node-at-least t
+
       cell : Is (S .code) (behindE t p) Deref (nodeE t) → (o : Option Plain) (l : ℕ) (w₁ : World) (c s : ℕ) → Done S aValue Γ K p (behindE t p) w b (Location l) w₁ c s →
           found (w₁ .cells) l ≡ o → (a : Plain) × (o ≡ Some a) → Does S aPlain Γ K p (plainEnd t (behindE t p)) w b (sizeE t) (orLost o w₁ c)
       cell i None l w₁ c s d e is = let y = is .1 in let x : _≡_ {A = ℕ} 0 1 = cc in absurd (omega arith)
       cell i (Some a) l w₁ c s d e is = let n = some in is-done S (s + 1) (record {
-          reach = also S Deref (nodeE t) (d .reach) i (omega arith) (noting (nodeE t) (sides (here (Location l) w₁)) (ap (λ o. replaceTop o (K .values) (ahead (here (Location l) w₁))) e));
-          most = omega arith; least = omega arith; same = d .same; inside = tt })
+        reach = also S Deref (nodeE t) (d .reach) i (omega arith) (noting (nodeE t) (sides (here (Location l) w₁)) (ap (λ o. replaceTop o (K .values) (ahead (here (Location l) w₁))) e));
+        most = omega arith;
+        least = omega arith;
+        same = d .same;
+        inside = tt;
+      })
+
       top : Is (S .code) (behindE t p) Deref (nodeE t) → (v : Value) (w₁ : World) (c s : ℕ) → Done S aValue Γ K p (behindE t p) w b v w₁ c s →
           Does S aPlain Γ K p (plainEnd t (behindE t p)) w b (sizeE t) (deref v w₁ c)
       top i (plain a) w₁ c s d = let n = some in is-done S (s + 1) (record {
-          reach = also S Deref (nodeE t) (d .reach) i (omega arith) refl; most = omega arith; least = omega arith; same = d .same; inside = tt })
+        reach = also S Deref (nodeE t) (d .reach) i (omega arith) refl;
+        most = omega arith;
+        least = omega arith;
+        same = d .same;
+        inside = tt;
+      })
       top i (Location l) w₁ c s d =
           let j = d .inside in let e = d .same in
           cell i (found (w₁ .cells) l) l w₁ c s d refl (found-inside (w₁ .cells) l (omega arith))
@@ -90,8 +102,10 @@ module _ (S : Setup) (g : ℕ) (simE : SimE S g) where
       where
         q : ℕ
         q = suc (plainEnd a (behindE a p))
+
         q₁ : ℕ
         q₁ = suc (σ .behind c q)
+
         go : Is (S .code) (plainEnd a (behindE a p)) (JumpFalse q₁) nd → Placed σ (S .code) c (Γ .scope) q → Is (S .code) (σ .behind c q) (Jump (σ .behind d q₁)) nd → Placed σ (S .code) d (Γ .scope) q₁ →
             (x : Plain) (w₁ : World) (b₁ s₁ : ℕ) → Done S aPlain Γ K p (plainEnd a (behindE a p)) w b x w₁ b₁ s₁ →
             Does S k Γ K p (σ .behind d q₁) w (suc b) (suc (sizeE a + σ .size c + σ .size d))
@@ -100,15 +114,29 @@ module _ (S : Setup) (g : ℕ) (simE : SimE S g) where
         go jf yes₁ jump no₁ (Truth true) w₁ b₁ s₁ d₁ =
             let r₁ = also S _ nd (d₁ .reach) jf (omega arith) refl in
             lastly S r₁ (omega arith) (omega arith) (sim c Γ K q w₁ b₁ r yes₁ (fits-part w₁ (σ .size c) fits (d₁ .same) (omega arith)) (omega arith))
-            (λ a w₂ b₂ s₂ d₂. let f = k .few a (K .values) in (s₁ + 1 + s₂ + 1, record {
-              reach = also S _ nd (then S r₁ (d₂ .reach)) jump (omega arith) refl;
-              most = omega arith; least = omega arith; same = d₂ .same ∙ d₁ .same; inside = subst (λ n. k .In n a) (d₁ .same) (d₂ .inside) }))
+            (λ a w₂ b₂ s₂ d₂. let f = k .few a (K .values) in (
+              s₁ + 1 + s₂ + 1,
+              record {
+                reach = also S _ nd (then S r₁ (d₂ .reach)) jump (omega arith) refl;
+                most = omega arith;
+                least = omega arith;
+                same = d₂ .same ∙ d₁ .same;
+                inside = subst (λ n. k .In n a) (d₁ .same) (d₂ .inside);
+              },
+            ))
         go jf yes₁ jump no₁ (Truth false) w₁ b₁ s₁ d₁ =
             let r₁ = also S _ nd (d₁ .reach) jf (omega arith) refl in
             lastly S r₁ (omega arith) (omega arith) (sim d Γ K q₁ w₁ b₁ r no₁ (fits-part w₁ (σ .size d) fits (d₁ .same) (omega arith)) (omega arith))
-            (λ a w₂ b₂ s₂ d₂. (s₁ + 1 + s₂, record {
-              reach = then S r₁ (d₂ .reach);
-              most = omega arith; least = omega arith; same = d₂ .same ∙ d₁ .same; inside = subst (λ n. k .In n a) (d₁ .same) (d₂ .inside) }))
+            (λ a w₂ b₂ s₂ d₂. (
+              s₁ + 1 + s₂,
+              record {
+                reach = then S r₁ (d₂ .reach);
+                most = omega arith;
+                least = omega arith;
+                same = d₂ .same ∙ d₁ .same;
+                inside = subst (λ n. k .In n a) (d₁ .same) (d₂ .inside);
+              },
+            ))
 
     -- both calls: the argument, CALL, the body under its own scene, and RET. `asRoutine` is what the source makes of what it finds
     pub calling : (asRoutine : Found → (ℕ → T → List Binding → Outcome A) → Outcome A) (routine : ℕ → T → Denoted) →
@@ -123,22 +151,37 @@ module _ (S : Setup) (g : ℕ) (simE : SimE S g) where
         andThen S _ (stay S) (omega arith) (omega arith)
         (simE a Γ K p w b r (pa .0) (fits-part w (sizeE a) fits refl (omega arith)) hb)
         (λ v w₁ b₁ s₁ d₁.
-          let c : Config = config (behindE a p) (v ∷ K .values) (Γ .environment) (K .used) (K .dump) w₁ in
-          let Γ₁ : Scene (S .code) = record {
-            scope = scopeInside (q .parameter) (q .scope); bindings = binding (q .parameter) (value v) ∷ q .rest; environment = Holds v ∷ drop (suc (n .0)) (Γ .environment);
-            corresponds = more (q .parameter) (value v) (Holds v) refl (q .behind) } in
-          let K₁ : Waiting = record { values = K .values; used = suc (K .used); dump = frame (Γ .environment) (K .used) (suc (behindE a p)) ∷ K .dump } in
-          let lighter = q .fewer in
-          let r₁ : Reach S (at S Γ K p w) (s₁ + 1) (at S Γ₁ K₁ (q .body .start) w₁) =
-            also S _ nd (d₁ .reach) i (omega arith)
-            (noting nd (sides c) (call-with-room (S .rules .limit) v (n .0) (q .body .start) (withStack (K .values) (ahead c)) (q .slot ∙ ap Some (q .body .is)) (omega arith) (omega arith))) in
-          subst (λ o. Does S k Γ K p (suc (behindE a p)) w (suc b) (suc (sizeE a)) o)
-          (sym (ap (λ F. asRoutine F λ y t rest. eval t (binding y (value v) ∷ rest) w₁ b₁) (q .is) ∙ goes-on (q .parameter) (q .tree) (q .rest) (λ y t rest. eval t (binding y (value v) ∷ rest) w₁ b₁)))
-          (lastly S r₁ (omega arith) (omega arith)
-          (sim (q .tree) Γ₁ K₁ (q .body .start) w₁ b₁ (suc r) (q .body .placed)
-            (record {
-              inside = (subst (λ n. Inside n v) (sym (d₁ .same)) (d₁ .inside), all-inside-more _ _ (omega arith) (q .rest) (q .inside _ (fits .inside)));
-              values = omega arith; used = omega arith; dump = omega arith; cells = omega arith; enough = omega arith }) (omega arith))
-          (λ x w₂ b₂ s₂ d₂. let f = k .few x (K .values) in (s₁ + 1 + s₂ + 1, record {
+        let c : Config = config (behindE a p) (v ∷ K .values) (Γ .environment) (K .used) (K .dump) w₁ in
+        let Γ₁ : Scene (S .code) = record {
+          scope = scopeInside (q .parameter) (q .scope);
+          bindings = binding (q .parameter) (value v) ∷ q .rest;
+          environment = Holds v ∷ drop (suc (n .0)) (Γ .environment);
+          corresponds = more (q .parameter) (value v) (Holds v) refl (q .behind);
+        } in
+        let K₁ : Waiting = record { values = K .values; used = suc (K .used); dump = frame (Γ .environment) (K .used) (suc (behindE a p)) ∷ K .dump } in
+        let lighter = q .fewer in
+        let r₁ : Reach S (at S Γ K p w) (s₁ + 1) (at S Γ₁ K₁ (q .body .start) w₁) =
+        also S _ nd (d₁ .reach) i (omega arith)
+        (noting nd (sides c) (call-with-room (S .rules .limit) v (n .0) (q .body .start) (withStack (K .values) (ahead c)) (q .slot ∙ ap Some (q .body .is)) (omega arith) (omega arith))) in
+        subst (λ o. Does S k Γ K p (suc (behindE a p)) w (suc b) (suc (sizeE a)) o)
+        (sym (ap (λ F. asRoutine F λ y t rest. eval t (binding y (value v) ∷ rest) w₁ b₁) (q .is) ∙ goes-on (q .parameter) (q .tree) (q .rest) (λ y t rest. eval t (binding y (value v) ∷ rest) w₁ b₁)))
+        (lastly S r₁ (omega arith) (omega arith)
+        (sim (q .tree) Γ₁ K₁ (q .body .start) w₁ b₁ (suc r) (q .body .placed)
+        (record {
+          inside = (subst (λ n. Inside n v) (sym (d₁ .same)) (d₁ .inside), all-inside-more _ _ (omega arith) (q .rest) (q .inside _ (fits .inside)));
+          values = omega arith;
+          used = omega arith;
+          dump = omega arith;
+          cells = omega arith;
+          enough = omega arith;
+        }) (omega arith))
+        (λ x w₂ b₂ s₂ d₂. let f = k .few x (K .values) in (
+          s₁ + 1 + s₂ + 1,
+          record {
             reach = also S _ (q .body .node) (then S r₁ (d₂ .reach)) (q .body .returns) (omega arith) refl;
-            most = omega arith; least = omega arith; same = d₂ .same ∙ d₁ .same; inside = subst (λ n. k .In n x) (d₁ .same) (d₂ .inside) }))))
+            most = omega arith;
+            least = omega arith;
+            same = d₂ .same ∙ d₁ .same;
+            inside = subst (λ n. k .In n x) (d₁ .same) (d₂ .inside);
+          },
+        ))))

@@ -1,9 +1,9 @@
 -- The evaluator is metered: a line for each form, in the evaluator's own shape. From that, the number of visits is exact.
 use mathlib.Core.Path.{_≡_, refl, sym, _∙_, ap, subst}
-use mathlib.Core.List.{List, [], _∷_}
+use mathlib.Core.List.{[], _∷_}
 use mathlib.Core.Bool.{true, false}
 use mathlib.Core.Logic.{_⊎_, inl, inr}
-use Prim.Native.Nat.{ℕ, suc, _+_, _-_, _≤_, _<_}
+use Prim.Native.Nat.{ℕ, _+_, _-_, _≤_, _<_}
 use native.Mathlib.Nat.{zero-add}
 use native.Mathlib.Decide.{decLe}
 use native.Mathlib.Omega.{arith}
@@ -11,18 +11,18 @@ use Rattle.vocabulary.specs.declared.end.End.{End}
 use Rattle.vocabulary.specs.declared.end.End.the-variants.{Halt}
 use Rattle.vocabulary.specs.declared.value.Value.the-variants.{Plain as plain}
 use Rattle.vocabulary.specs.World.{World, Rules, hasRoom}
-use Rattle.language.specs.Tree.{Expression, Command, Declaration, nodeC}
+use Rattle.language.specs.Tree.{Command, nodeC}
 use Rattle.language.specs.Tree.Expression.{number, truth, read, name, operation, functionCall, choice}
 use Rattle.language.specs.Tree.Command.{assign, output, when, while, block, sequence, procedureCall}
 use Rattle.language.specs.Tree.Declaration.{constant, variable, procedure, function, pair}
-use Rattle.language.specs.Outcomes.{Binding, Outcome, find}
+use Rattle.language.specs.Outcomes.{Outcome, find}
 use Rattle.language.specs.Outcomes.Binding.{binding}
 use Rattle.language.specs.Outcomes.Denoted.{value}
 use Rattle.language.specs.Outcomes.Outcome.{done, ended, cut, lost}
 use Rattle.language.specs.Meaning.{courseOf, meaning, evalE, evalC, evalD}
 use Rattle.language.specs.Meaning.Course.{finished, unfinished, meaningless}
 use Rattle.agreement.specs.Agreement.{ExactVisits}
-use Rattle.agreement.proofs.Metered.{Left, Longer, Metered, Meters, Begins, returns, binds, plainlies, takes, answers, values, puts, tests, locates, functions, procedures, metering}
+use Rattle.agreement.proofs.Metered.{Left, Longer, Meters, Begins, returns, binds, plainlies, takes, answers, values, puts, tests, locates, functions, procedures, metering}
 
 module _ (R : Rules) where
   begunE : Begins (evalE R)
@@ -117,13 +117,15 @@ module _ (R : Rules) (t : Command) (w : World) where
   fewer v e n w′ q k h =
       elim (with-fewer k (v - k) v (omega arith) e n w′ 0 q) [
         | inl d ↦ let f = d .1 in absurd (omega arith)
-        | inr d ↦ d .1 ]
+        | inr d ↦ d .1
+      ]
 
   once : (v k : ℕ) (e f : End) (n m : ℕ) (w′ u : World) → meaning R t w v ≡ finished e n w′ 0 → meaning R t w k ≡ finished f m u 0 → v ≤ k
   once v k e f n m w′ u q r =
       elim (decLe v k) [
         | yes h ↦ h
-        | no h ↦ let x = fewer v e n w′ q k (omega arith) in let y : unfinished (x .0) ≡ finished f m u 0 = sym (x .1) ∙ r in let z : _≡_ {A = ℕ} 0 1 = cc y in absurd (omega arith) ]
+        | no h ↦ let x = fewer v e n w′ q k (omega arith) in let y : unfinished (x .0) ≡ finished f m u 0 = sym (x .1) ∙ r in let z : _≡_ {A = ℕ} 0 1 = cc y in absurd (omega arith)
+      ]
 
   more-visits : (v : ℕ) (e : End) (n : ℕ) (w′ : World) → meaning R t w v ≡ finished e n w′ 0 → (m : ℕ) → meaning R t w (v + m) ≡ finished e n w′ m
   unfolding meaning
@@ -133,13 +135,17 @@ module _ (R : Rules) (t : Command) (w : World) where
   pub used-up : (k b : ℕ) (e : End) (n : ℕ) (w′ : World) → meaning R t w k ≡ finished e n w′ b → (v : ℕ) × (meaning R t w v ≡ finished e n w′ 0)
   unfolding meaning
   used-up k b e n w′ q =
-      let l : b ≤ k = left-finished (λ c. c ≤ k) (nodeC t) (evalC R k t [] w k) (meterC R k k (omega arith) t [] w .low k) e n w′ b q in
-      (k - b, elim (with-fewer (k - b) b k (omega arith) e n w′ b q) [
-        | inl d ↦ let f = d .1 in let g : d .0 ≡ 0 = omega arith in d .2 ∙ ap (finished e n w′) g
-        | inr d ↦ let f = d .0 in absurd (omega arith) ])
+      let l : b ≤ k = left-finished (λ c. c ≤ k) (nodeC t) (evalC R k t [] w k) (meterC R k k (omega arith) t [] w .low k) e n w′ b q in (
+        k - b,
+        elim (with-fewer (k - b) b k (omega arith) e n w′ b q) [
+          | inl d ↦ let f = d .1 in let g : d .0 ≡ 0 = omega arith in d .2 ∙ ap (finished e n w′) g
+          | inr d ↦ let f = d .0 in absurd (omega arith)
+        ],
+      )
 
 pub exact-visits : ExactVisits
 exact-visits R t w v e n w′ q = record {
-    more = more-visits R t w v e n w′ q;
-    fewer = fewer R t w v e n w′ q;
-    once = λ k f m u r. let x = once R t w v k e f n m w′ u q r in let y = once R t w k v f e m n u w′ r q in omega arith }
+  more = more-visits R t w v e n w′ q;
+  fewer = fewer R t w v e n w′ q;
+  once = λ k f m u r. let x = once R t w v k e f n m w′ u q r in let y = once R t w k v f e m n u w′ r q in omega arith;
+}

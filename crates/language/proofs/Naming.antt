@@ -78,6 +78,7 @@ namedE (choice nd a b c) sc e =
 
 mutual
   unfolding namesC namesD
+
   pub namedC : (t : Command) (sc : List Entry) → namesC t sc ≡ Ok tt → NamedC t sc
   namedC (assign nd a b) sc e = let q = both-accept _ _ e in (namedE a sc (q .0), namedE b sc (q .1))
   namedC (output nd a) sc e = namedE a sc e
@@ -108,6 +109,7 @@ acceptedE (choice nd a b c) sc n = accept-both (acceptedE a sc (n .0)) (accept-b
 
 mutual
   unfolding namesC namesD
+
   pub acceptedC : (t : Command) (sc : List Entry) → NamedC t sc → namesC t sc ≡ Ok tt
   acceptedC (assign nd a b) sc n = accept-both (acceptedE a sc (n .0)) (acceptedE b sc (n .1))
   acceptedC (output nd a) sc n = acceptedE a sc n
