@@ -1,4 +1,5 @@
--- The simulation of commands, a lemma for each form, by induction on the depth.
+-- The simulation of commands: a lemma for each form that has one of its own, and then the induction on the depth. A command leaves the
+-- machine's tables as it found them, and as many cells.
 use mathlib.Core.Path.{refl, _∙_}
 use mathlib.Core.List.{_∷_}
 use mathlib.Core.Bool.{Bool, true, false}
@@ -12,7 +13,7 @@ use Rattle.vocabulary.specs.declared.value.Value.{Value}
 use Rattle.vocabulary.specs.declared.value.Value.the-variants.{Plain as plain, Location}
 use Rattle.vocabulary.specs.World.{World, withCells, hasRoom}
 use Rattle.language.specs.declared.name.Role.the-variants.{Procedure}
-use Rattle.language.specs.Tree.{Expression, Command, Declaration, sizeE, sizeC}
+use Rattle.language.specs.Tree.{Expression, Command, Declaration, sizeE, sizeC, sizeD}
 use Rattle.language.specs.Tree.Command.{assign, output, when, while, block, sequence, procedureCall}
 use Rattle.language.specs.Scope.{scopeAfter}
 use Rattle.language.specs.Translation.{behindE, behindC, behindD, plainEnd}
@@ -29,7 +30,7 @@ use Rattle.agreement.proofs.Placed.{expressions, plains, commands, declaration
 use Rattle.agreement.proofs.Scene.{Scene, Waiting, on, Fits, fits-part, fits-on}
 use Rattle.agreement.proofs.Lookup.{resolve, procedure-at}
 use Rattle.agreement.proofs.Instructions.{noting, with-room}
-use Rattle.agreement.proofs.Simulation.{aValue, aPlain, aCommand, is-done, is-ended, is-cut, andThen, lastly, at, Done, Does, SimC}
+use Rattle.agreement.proofs.Simulation.{aValue, aPlain, aCommand, is-done, is-ended, is-cut, andThen, lastly, at, Done, sceneAfter, waitingAfter, fits-after, Does, SimC}
 use Rattle.agreement.proofs.Shared.{a-node-at-least, simPlain, choosing, calling}
 use Rattle.agreement.proofs.Expressions.{simE}
 use Rattle.agreement.proofs.Declarations.{simD}
@@ -145,15 +146,13 @@ module _ (S : Setup) where
         let K₀ : Waiting = record { values = K .values; used = K .used; dump = frame (Γ .environment) (K .used) (length (w .cells)) ∷ K .dump } in
         let r₀ : Reach S (at S Γ K p w) 1 (at S Γ K₀ (suc p) w) =
         also S Enter nd (stay S) (placed .stands .0) (omega arith) (noting nd (ports (w .feed) (w .strip) (w .space)) (with-room (length (K .dump)) (S .rules .limit) _ (omega arith))) in
+        let f₀ : Fits (S .room) (Γ .bindings) K₀ w (suc r) (sizeD d + sizeC c) =
+        record { inside = fits .inside; values = omega arith; used = omega arith; dump = omega arith; cells = omega arith; enough = omega arith } in
         andThen S _ r₀ (omega arith) (omega arith)
-        (simD S g d Γ K₀ (suc p) w b (suc r) (qd .0)
-        (record { inside = fits .inside; values = omega arith; used = omega arith; dump = omega arith; cells = omega arith; enough = omega arith }) hb)
+        (simD S g d Γ K₀ (suc p) w b (suc r) (qd .0) (fits-part w (sizeD d) f₀ refl (omega arith)) hb)
         (λ bs w₁ b₁ s₁ d₁.
-        let Γ₁ : Scene (S .code) = record { scope = scopeAfter d (Γ .scope); bindings = bs; environment = d₁ .environment; corresponds = d₁ .corresponds } in
-        let K₁ : Waiting = record { values = K .values; used = d₁ .used; dump = K₀ .dump } in
         andThen S _ (then S r₀ (d₁ .reach)) (omega arith) (omega arith)
-        (ih c Γ₁ K₁ (behindD d (suc p)) w₁ b₁ (d₁ .r′) (qc .0)
-        (record { inside = d₁ .inside; values = omega arith; used = d₁ .fewUsed; dump = omega arith; cells = d₁ .fewCells; enough = omega arith }) (omega arith))
+        (ih c (sceneAfter S d₁) (waitingAfter S d₁) (behindD d (suc p)) w₁ b₁ (d₁ .r′) (qc .0) (fits-after S d₁ (sizeC c) _ f₀ (omega arith)) (omega arith))
         (λ u w₂ b₂ s₂ d₂.
         is-done S (1 + s₁ + s₂ + 1) (record {
           reach = also S Leave nd (then S (then S r₀ (d₁ .reach)) (d₂ .reach)) (qc .1 .0) (omega arith) refl;

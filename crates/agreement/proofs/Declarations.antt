@@ -1,4 +1,5 @@
--- The simulation of declarations, a lemma for each form, by induction on the depth.
+-- The simulation of declarations: a lemma for each form, and then the induction on the depth. Every simple declaration adds one binding to
+-- scope, source and machine alike, which keeps the three in step; a variable adds one cell too.
 use mathlib.Core.Path.{_≡_, refl, _∙_}
 use mathlib.Core.List.{List, [], _∷_, _++_}
 use Prim.Native.Nat.{ℕ, zero, suc, _+_, _*_, _≤_, _<_}
@@ -32,7 +33,7 @@ use Rattle.agreement.proofs.Placed.{Sort, expressions, plains, commands, decla
 use Rattle.agreement.proofs.Scene.{BodyAt, Match, roleOf, Scene, Waiting, Inside, DenotesInside, all-inside-more, weight, Fits, fits-part}
 use Rattle.agreement.proofs.Scene.Corresponds.{more}
 use Rattle.agreement.proofs.Instructions.{noting, with-room, bind-with-room}
-use Rattle.agreement.proofs.Simulation.{is-done, is-cut, andThen, lastly, at, Declares, SimD}
+use Rattle.agreement.proofs.Simulation.{is-done, is-cut, andThen, lastly, at, sceneAfter, waitingAfter, fits-after, Declares, SimD}
 use Rattle.agreement.proofs.Shared.{simPlain}
 use Rattle.agreement.proofs.Expressions.{simE}
 
@@ -138,11 +139,9 @@ module _ (S : Setup) where
         andThen S _ (stay S) (omega arith) (omega arith)
         (ih a Γ K p w b r (qa .0) (fits-part w (sizeD a) fits refl (omega arith)) hb)
         (λ bs w₁ b₁ s₁ d₁.
-        let Γ₁ : Scene (S .code) = record { scope = scopeAfter a (Γ .scope); bindings = bs; environment = d₁ .environment; corresponds = d₁ .corresponds } in
-        let K₁ : Waiting = record { values = K .values; used = d₁ .used; dump = K .dump } in
         lastly S (d₁ .reach) (omega arith) (omega arith)
-        (ih c Γ₁ K₁ (behindD a p) w₁ b₁ (d₁ .r′) (record { named = placed .named .1; stands = qa .1 })
-        (record { inside = d₁ .inside; values = omega arith; used = d₁ .fewUsed; dump = omega arith; cells = d₁ .fewCells; enough = omega arith }) (omega arith))
+        (ih c (sceneAfter S d₁) (waitingAfter S d₁) (behindD a p) w₁ b₁ (d₁ .r′) (record { named = placed .named .1; stands = qa .1 })
+        (fits-after S d₁ (sizeD c) _ fits (omega arith)) (omega arith))
         (λ bs₂ w₂ b₂ s₂ d₂. (
           s₁ + s₂,
           record {

@@ -1,4 +1,5 @@
--- The simulation of expressions, a lemma for each form, by induction on the depth.
+-- The simulation of expressions: a lemma for each form that has one of its own, and then the induction on the depth. The invariant is
+-- that of Scene, the statement that of Simulation.
 use mathlib.Core.Path.{_≡_, refl, sym, _∙_, ap, subst}
 use mathlib.Core.List.{List, [], _∷_}
 use Prim.Native.Nat.{ℕ, zero, suc, _+_, _*_, _≤_}

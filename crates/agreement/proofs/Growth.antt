@@ -1,4 +1,5 @@
--- A step takes from the front of the feed and adds to the end of the strip, and does nothing else to them.
+-- A step takes from the front of the feed and adds to the end of the strip, and does nothing else to them: instruction by instruction,
+-- of which only READ and PUT touch them at all. So what a run has done is the first part of what a longer run does.
 use mathlib.Core.Path.{_≡_, refl, sym, _∙_, ap}
 use mathlib.Core.List.{List, [], _∷_, _++_, append-assoc, append-nil}
 use mathlib.Core.Bool.{Bool, true, false}

@@ -1,4 +1,5 @@
--- What an instruction does where its table has room; and that a place among the cells holds a value.
+-- What an instruction does where its table has room, and that a place among the cells holds a value. These are the only proofs that
+-- look into the instructions that can find a table full.
 use mathlib.Core.Path.{_≡_, refl, _∙_, ap}
 use mathlib.Core.List.{List, [], _∷_}
 use mathlib.Core.Bool.{Bool, true, false}

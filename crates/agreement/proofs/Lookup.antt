@@ -1,4 +1,5 @@
--- A name that is visible in the scope: what the source finds for it and what stands at its place in the machine's environment match.
+-- A name that is visible in the scope: what the source finds for it and what stands at its place in the machine's environment match,
+-- by induction on the three lists that go in step. A name in the role of a value has a value, in that of a routine a body of its sort.
 use mathlib.Core.Path.{_≡_, refl, _∙_, ap, subst}
 use mathlib.Core.List.{List, _∷_}
 use mathlib.Core.Bool.{Bool, true, false}

@@ -1,4 +1,5 @@
--- The work that several forms share: a plain value, a test with two ways on, and the call of a body.
+-- The work that several forms share: a plain value (expression, then DEREF), a test with two ways on (if and choice), and the call of
+-- a body (both calls). Each keeps the simulation's statement, whatever sort of tree and whatever result it is used for.
 use mathlib.Core.Path.{_≡_, refl, sym, _∙_, ap, subst}
 use mathlib.Core.List.{List, _∷_, _++_}
 use mathlib.Core.Bool.{true, false}

@@ -126,6 +126,18 @@ module _ (S : Setup) where
     pub higher : r ≤ r′
     pub enough : r′ + bodies bs ≤ r + z + bodies (Γ .bindings)
 
+  -- what a tree behind a declaration sees, what waits below it, and that it fits
+  module _ {Γ : Scene (S .code)} {K : Waiting} {p q : ℕ} {w₀ : World} {b r z : ℕ} {sc : List Entry} {bs : List Binding} {w : World} {c s : ℕ} where
+    abbrev pub sceneAfter : Declared Γ K p q w₀ b r z sc bs w c s → Scene (S .code)
+    sceneAfter d = record { scope = sc; bindings = bs; environment = d .environment; corresponds = d .corresponds }
+
+    abbrev pub waitingAfter : Declared Γ K p q w₀ b r z sc bs w c s → Waiting
+    waitingAfter d = record { values = K .values; used = d .used; dump = K .dump }
+
+    pub fits-after : (d : Declared Γ K p q w₀ b r z sc bs w c s) (z₁ z₂ : ℕ) → Fits (S .room) (Γ .bindings) K w₀ r z₂ → z + z₁ ≤ z₂ →
+        Fits (S .room) bs (waitingAfter d) w (d .r′) z₁
+    fits-after d z₁ z₂ f h = record { inside = d .inside; values = omega arith; used = d .fewUsed; dump = omega arith; cells = d .fewCells; enough = omega arith }
+
   abbrev pub Does : {A : Type 0} → Work A → Scene (S .code) → Waiting → ℕ → ℕ → World → ℕ → ℕ → Outcome A → Type 0
   Does k Γ K p q w b z o = Post (Done k Γ K p q w b) (at Γ K p w) b (z + bodies (Γ .bindings)) o
 

@@ -1,5 +1,6 @@
 -- Runs of the machine, put together from steps. `Reach x s y`: s steps lead from x to y, and no state on the way has more on
--- any table than there is room for.
+-- any table than there is room for. So what a run reaches says at once where it is and that no table was ever too full.
+-- Beside it: an ended machine stays as it is, and how many steps of a run are carried out.
 use mathlib.Core.Path.{_≡_, refl, sym, _∙_, ap, subst}
 use mathlib.Core.List.{List}
 use Prim.Native.Nat.{ℕ, zero, suc, _+_, _-_, _≤_, _<_}
