@@ -111,10 +111,10 @@ module _ (S : Setup) (g : ℕ) (simE : SimE S g) where
             (x : Plain) (w₁ : World) (b₁ s₁ : ℕ) → Done S aPlain Γ K p (plainEnd a (behindE a p)) w b x w₁ b₁ s₁ →
             Does S k Γ K p (σ .behind d q₁) w (suc b) (suc (sizeE a + σ .size c + σ .size d))
             (tested nd x w₁ b₁ λ t. elim t [ true ↦ eval c (Γ .bindings) w₁ b₁ | false ↦ eval d (Γ .bindings) w₁ b₁ ])
-        go jf yes₁ jump no₁ (Number z) w₁ b₁ s₁ d₁ = is-ended S (s₁ + 1) (also S _ nd (d₁ .reach) jf (omega arith) refl) (omega arith)
-        go jf yes₁ jump no₁ (Truth true) w₁ b₁ s₁ d₁ =
+        go jf onTrue jump onFalse (Number z) w₁ b₁ s₁ d₁ = is-ended S (s₁ + 1) (also S _ nd (d₁ .reach) jf (omega arith) refl) (omega arith)
+        go jf onTrue jump onFalse (Truth true) w₁ b₁ s₁ d₁ =
             let r₁ = also S _ nd (d₁ .reach) jf (omega arith) refl in
-            lastly S r₁ (omega arith) (omega arith) (sim c Γ K q w₁ b₁ r yes₁ (fits-part w₁ (σ .size c) fits (d₁ .same) (omega arith)) (omega arith))
+            lastly S r₁ (omega arith) (omega arith) (sim c Γ K q w₁ b₁ r onTrue (fits-part w₁ (σ .size c) fits (d₁ .same) (omega arith)) (omega arith))
             (λ a w₂ b₂ s₂ d₂. let f = k .few a (K .values) in (
               s₁ + 1 + s₂ + 1,
               record {
@@ -125,9 +125,9 @@ module _ (S : Setup) (g : ℕ) (simE : SimE S g) where
                 inside = subst (λ n. k .In n a) (d₁ .same) (d₂ .inside);
               },
             ))
-        go jf yes₁ jump no₁ (Truth false) w₁ b₁ s₁ d₁ =
+        go jf onTrue jump onFalse (Truth false) w₁ b₁ s₁ d₁ =
             let r₁ = also S _ nd (d₁ .reach) jf (omega arith) refl in
-            lastly S r₁ (omega arith) (omega arith) (sim d Γ K q₁ w₁ b₁ r no₁ (fits-part w₁ (σ .size d) fits (d₁ .same) (omega arith)) (omega arith))
+            lastly S r₁ (omega arith) (omega arith) (sim d Γ K q₁ w₁ b₁ r onFalse (fits-part w₁ (σ .size d) fits (d₁ .same) (omega arith)) (omega arith))
             (λ a w₂ b₂ s₂ d₂. (
               s₁ + 1 + s₂,
               record {
