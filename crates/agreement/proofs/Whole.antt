@@ -108,7 +108,7 @@ module _ (R : Rules) (t : Command) (w : World) (fits : sizeC t ≤ R .limit) whe
       (subst (Grew (c .world)) (v .2) (subst (Since (c .world)) (z ∙ v .1) (since s d s₁ c h x)))
   first-part s d s₁ c meaningless y h x z v = absurd v
 
-  -- the state at s, when the course at k shows at a later state, or at an earlier one that has ended
+  -- the state at s, when the course at k shows at a state that is no earlier
   fate-before : (s d s₁ k : ℕ) (x : State) (V : Course) → state s ≡ x → s₁ ≡ s + d → meaning R t w k ≡ V → Shows V (state s₁) → Roomy (sizeC t) x → Fate x
   fate-before s d s₁ k (running c) V h e m v roomy = (roomy, (k, subst (FirstPartOf w (c .world)) (sym m) (first-part s d s₁ c V (state s₁) h e refl v)))
   fate-before s d s₁ k (halted f n u) V h e m v roomy = same V m v
