@@ -19,13 +19,14 @@ use Rattle.language.specs.Sound.{Sound, LowerC, LowerD}
 use Rattle.language.specs.Translation.{one, word, plainCode, codeE, codeC, codeD, behindE, behindC, behindD}
 use Rattle.language.specs.Tree.{Expression, Command, Declaration, sizeC, sizeD}
 use Rattle.language.specs.Tree.Command.{assign, output, when, while, block, sequence, procedureCall}
+use Rattle.language.proofs.Lengths.{few-C, few-D}
 use Rattle.translation.specs.declared.tables.Code.{Code}
 use Rattle.translation.specs.declared.tables.Scope.{Scope}
 use Rattle.translation.specs.Held.{visible, Added, Aimed, Same, Resolved}
 use Rattle.translation.specs.Translated.{ReadyC, ReadyD, Wrote, TranslatedE, TranslatedPlain, TranslatedC, TranslatedD}
 use Rattle.translation.proofs.Expressions.{at-E, at-plain, second}
 use Rattle.translation.proofs.Scopes.{same-refl, same-trans}
-use Rattle.translation.proofs.Writing.{added-then, step, jumped, branched}
+use Rattle.translation.proofs.Writing.{added-then, step, jumped, branched, counted}
 
 -- a child is ready where its tree has room
 pub ready-C : {nodes : List Node} {n a : ℕ} {d : Code} {s : Scope} → Sound nodes → n < length nodes → LowerC nodes n a → d .count + 3 * sizeC (treeC nodes a) ≤ 1537 → s .count + sizeC (treeC nodes a) ≤ 512 → ReadyC nodes a d s
@@ -33,6 +34,13 @@ ready-C g h (l, i) r m = record { sound = g; here = omega arith; sort = i; room 
 
 pub ready-D : {nodes : List Node} {n a : ℕ} {d : Code} {s : Scope} → Sound nodes → n < length nodes → LowerD nodes n a → d .count + 3 * sizeD (treeD nodes a) ≤ 1537 → s .count + sizeD (treeD nodes a) ≤ 512 → ReadyD nodes a d s
 ready-D g h (l, i) r m = record { sound = g; here = omega arith; sort = i; room = r; names = m }
+
+-- three words are room enough for each node
+pub end-C : {t : Command} {s v : Scope} {c d : Code} → TranslatedC t s v c d (Ok tt) → d .count ≤ c .count + 3 * sizeC t
+end-C {t} {s} {c = c} q = omega (arith, counted (q .wrote), few-C t (visible s) (c .count))
+
+pub end-D : {t : Declaration} {s v : Scope} {c d : Code} → TranslatedD t s v c d (Ok tt) → d .count ≤ c .count + 3 * sizeD t
+end-D {t} {s} {c = c} q = omega (arith, counted (q .wrote), few-D t (visible s) (c .count))
 
 pub same-C : {t u : Command} {s v : Scope} {c d : Code} {r : Verdict} → t ≡ u → TranslatedC u s v c d r → TranslatedC t s v c d r
 same-C {s = s} {v} {c} {d} {r} e h = subst (λ (x : Command). TranslatedC x s v c d r) (sym e) h

@@ -21,8 +21,7 @@ use Rattle.translation.specs.declared.tables.Scope.{Scope}
 use Rattle.translation.specs.Held.{visible, Added, Aimed, Bound, Older, Same}
 use Rattle.translation.specs.Translated.{Wrote, Declared, TranslatedE, TranslatedPlain, TranslatedC, TranslatedD}
 use Rattle.translation.proofs.Commands.{at-C, at-D, verdict-C, verdict-D}
-use Rattle.translation.proofs.Expressions.{at-E, second}
-use Rattle.translation.proofs.Rooms.{some-E}
+use Rattle.translation.proofs.Expressions.{some-E, at-E, second}
 use Rattle.translation.proofs.Scopes.{older-trans, older-same}
 use Rattle.translation.proofs.Writing.{added-then, step, jumped}
 

@@ -4,7 +4,7 @@ use mathlib.Core.List.{List, [], _∷_, _++_}
 use Prim.Native.Nat.{ℕ, suc, _+_, _*_, _≤_, _<_}
 use native.Mathlib.Omega.{arith}
 use lib.IntN.{ℤ}
-use lib.ListN.{length}
+use lib.ListN.{length, length-append}
 use Rattle.std.specs.declared.result.Result.{Result}
 use Rattle.std.specs.declared.result.Result.the-variants.{Ok, Err}
 use Rattle.std.specs.Results.{andOther}
@@ -24,14 +24,25 @@ use Rattle.language.specs.Sound.{Sound, LowerE}
 use Rattle.language.specs.Translation.{one, word, plainCode, plainEnd, codeE, behindE}
 use Rattle.language.specs.Tree.{Expression, nodeE, sizeE}
 use Rattle.language.specs.Tree.Expression.{number, truth, read, name, operation, functionCall, choice}
+use Rattle.language.proofs.Lengths.{few-E}
 use Rattle.translation.specs.declared.tables.Code.{Code}
 use Rattle.translation.specs.Held.{Added, Aimed, Resolved}
 use Rattle.translation.specs.Translated.{ReadyE, Wrote, TranslatedE, TranslatedPlain}
-use Rattle.translation.proofs.Writing.{added-then, step, branched}
+use Rattle.translation.proofs.Writing.{added-then, step, branched, counted}
 
 -- a child is ready where its tree has room
 pub ready-E : {nodes : List Node} {n a : ℕ} {d : Code} → Sound nodes → n < length nodes → LowerE nodes n a → d .count + 3 * sizeE (treeE nodes a) ≤ 1537 → ReadyE nodes a d
 ready-E g h (l, s) r = record { sound = g; here = omega arith; sort = s; room = r }
+
+-- three words are room enough for each node
+pub some-E : (t : Expression) → 1 ≤ sizeE t
+some-E t = omega (arith, few-E t [] 0)
+
+pub end-E : {t : Expression} {sc : List Entry} {c d : Code} → TranslatedE t sc c d (Ok tt) → d .count < c .count + 3 * sizeE t
+end-E {t} {sc} {c} q = omega (arith, counted (q .wrote), few-E t sc (c .count))
+
+pub end-plain : {t : Expression} {sc : List Entry} {c d : Code} → TranslatedPlain t sc c d (Ok tt) → d .count ≤ c .count + 3 * sizeE t
+end-plain {t} {sc} {c} q = omega (arith, simp length-append at (counted (q .wrote)), few-E t sc (c .count))
 
 pub same-E : {t u : Expression} {sc : List Entry} {c d : Code} {r : Verdict} → t ≡ u → TranslatedE u sc c d r → TranslatedE t sc c d r
 same-E {sc = sc} {c} {d} {r} e h = subst (λ (x : Expression). TranslatedE x sc c d r) (sym e) h
@@ -57,9 +68,6 @@ first v p = ap (λ (k : Verdict). andOther k v) p
 pub plain-done : {t : Expression} {sc : List Entry} {c d e : Code} {n : ℕ} → nodeE t ≡ n → TranslatedE t sc c d (Ok tt) → Added d e (one Deref n) (suc (d .count)) → TranslatedPlain t sc c e (Ok tt)
 plain-done {t} {sc} {c} {d} {e} {n} i p q =
     record { answer = p .answer; wrote = added-then (p .wrote) (subst (λ (k : ℕ). Added d e (one Deref k) (suc (behindE t (c .count)))) (sym i) (step (p .wrote .end) q)) }
-
-pub plain-refused : {t : Expression} {sc : List Entry} {c d : Code} {r : Verdict} {x : Refusal} → r ≡ Err x → Err x ≡ namesE t sc → TranslatedPlain t sc c d r
-plain-refused {t} {sc} {c} {d} {r} {x} e h = record { answer = e ∙ h; wrote = subst (λ (v : Verdict). Wrote c d (plainCode t (codeE t sc (c .count))) (plainEnd t (behindE t (c .count))) v) (sym e) tt }
 
 module _ (n : ℕ) (o : Operation) (a b : Expression) (sc : List Entry) {c d e f : Code} where
   pub operation-done : {k : Operation} → k ≡ o → TranslatedPlain a sc c d (Ok tt) → TranslatedPlain b sc d e (Ok tt) → Added e f (one (Op k) n) (suc (e .count)) → TranslatedE (operation n o a b) sc c f (Ok tt)

@@ -17,14 +17,14 @@ length-text c = front-length (c .words) (c .count) (omega (arith, c .sized, c .w
 pub added-then : {c d e : Code} {x y : List Word} {p q : ℕ} → Added c d x p → Added d e y q → Added c e (x ++ y) q
 added-then {c} {d} {e} {x} {y} a b = record { words = b .words ∙ ap (λ (t : List Word). t ++ y) (a .words) ∙ append-assoc (text c) x y; end = b .end }
 
-counted : {c d : Code} {x : List Word} {p : ℕ} → Added c d x p → d .count ≡ c .count + length x
+pub counted : {c d : Code} {x : List Word} {p : ℕ} → Added c d x p → d .count ≡ c .count + length x
 counted {c} {d} {x} a =
     let e : length (text d) ≡ length (text c) + length x = ap length (a .words) ∙ length-append (text c) x in
     let l = length-text c in
     let m = length-text d in
     omega arith
 
--- no position comes before the start
+-- no word is taken back
 pub ahead : {c d : Code} {x : List Word} {p : ℕ} → Added c d x p → c .count ≤ d .count
 ahead {x = x} a = let k = counted a in omega arith
 

@@ -3,18 +3,18 @@ ghost use mathlib.Core.Path.{_≡_};
 ghost use mathlib.Core.List.{[]};
 ghost use Prim.Native.Nat.{suc, _<_, _≤_};
 ghost use lib.ListN.{length};
+ghost use Rattle.std.specs.declared.result.Result.the-variants.{Ok};
 ghost use Rattle.language.specs.Names.{sameRole};
 ghost use Rattle.language.specs.Reading.{treeOf};
 ghost use Rattle.language.specs.Scope.{entry, placeOf};
-ghost use Rattle.language.specs.Sound.{Sound, IsC};
-ghost use Rattle.language.specs.Table.{rootOf};
 ghost use Rattle.language.specs.Translation.{one, word};
-ghost use Rattle.language.specs.Tree.{sizeC};
+ghost use Rattle.language.specs.Verdicts.{shapeVerdict};
 ghost use Rattle.translation.specs.Held.{text, visible, Added, Aimed, Bound, Resolved};
 ghost use Rattle.translation.specs.Translated.{ProgramOf};
 
 mod command;
 mod expression;
+mod simple;
 pub mod tables;
 
 use command::command;
@@ -124,11 +124,9 @@ fn same(wanted: Role, role: Role) -> bool
 
 // The code of a table whose shape is accepted, or the first fault of its names.
 pub fn translate(nodes: &[Node]) -> Result<Code, Refusal>
-    requires sound { ⌜ Sound (now nodes) ⌝ }
+    requires shape { ⌜ shapeVerdict (now nodes) ≡ Ok tt ⌝ }
     requires some { ⌜ 0 < length (now nodes) ⌝ }
     requires few { ⌜ length (now nodes) ≤ 512 ⌝ }
-    requires root { ⌜ IsC (now nodes) (rootOf (now nodes)) ⌝ }
-    requires size { ⌜ sizeC (treeOf (now nodes)) ≤ 512 ⌝ }
     ensures { λ r. ⌜ ProgramOf (treeOf (now (nodes .entry))) r ⌝ }
 {
     let root = (nodes.len() - 1) as u16;
