@@ -57,7 +57,6 @@ module _ {ns : List Node} {n m : ℕ} {c : Code} (p : ReadyE ns n c) (e : m ≡ 
   unfolding formE
   at-26 i = let j = kindE i in byE (choiceF (at ns m .a) (at ns m .b) (at ns m .c)) (simp j)
 
-
 module _ {ns : List Node} {n m : ℕ} {c : Code} {s : Scope} (p : ReadyC ns n c s) (e : m ≡ n) where
   kindC : {k : ℕ} → at ns n .kind ≡ k → at ns m .kind ≡ k
   kindC i = ap (λ (j : ℕ). at ns j .kind) e ∙ i
@@ -94,7 +93,6 @@ module _ {ns : List Node} {n m : ℕ} {c : Code} {s : Scope} (p : ReadyC ns n c 
   pub at-7 : at ns n .kind ≡ 7 → (treeC ns n ≡ procedureCall n (at ns m .tag) (treeE ns (at ns m .a))) × SoundC ns n (procedureCallF (at ns m .tag) (at ns m .a))
   unfolding formC
   at-7 i = let j = kindC i in byC (procedureCallF (at ns m .tag) (at ns m .a)) (simp j)
-
 
 module _ {ns : List Node} {n m : ℕ} {c : Code} {s : Scope} (p : ReadyD ns n c s) (e : m ≡ n) where
   kindD : {k : ℕ} → at ns n .kind ≡ k → at ns m .kind ≡ k

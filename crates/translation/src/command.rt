@@ -127,7 +127,10 @@ fn procedure(nodes: &[Node], n: u16, code: &mut Code, scope: &mut Scope) -> Resu
     code.emit(Instruction::Jump(0), n);
     {
         let was = scope.count;
-        let mark = Mark { scope: &mut *scope, was };
+        let mark = Mark {
+            scope: &mut *scope,
+            was,
+        };
         mark.scope.bind(node.c as u8, Role::Value);
         command(nodes, node.a, code, mark.scope)?;
     }

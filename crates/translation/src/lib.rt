@@ -36,7 +36,13 @@ impl Code {
         ensures words { λ r. ⌜ text r ≡ [] ⌝ }
         ensures end { λ r. ⌜ r .count ≡ 0 ⌝ }
     {
-        Code { words: [Word { instruction: Instruction::Halt, node: 0 }; 1537], count: 0 }
+        Code {
+            words: [Word {
+                instruction: Instruction::Halt,
+                node: 0,
+            }; 1537],
+            count: 0,
+        }
     }
 
     // The position of the next word.
@@ -70,7 +76,13 @@ impl Scope {
         ensures seen { λ r. ⌜ visible r ≡ [] ⌝ }
         ensures none { λ r. ⌜ r .count ≡ 0 ⌝ }
     {
-        Scope { entries: [Entry { name: 0, role: Role::Value }; 512], count: 0 }
+        Scope {
+            entries: [Entry {
+                name: 0,
+                role: Role::Value,
+            }; 512],
+            count: 0,
+        }
     }
 
     // Makes a name visible, in front of all others.
@@ -92,7 +104,10 @@ impl Scope {
             i -= 1;
             let entry = self.entries[i];
             if entry.name == name {
-                return Some(Place { newer: (self.count - 1 - i) as u16, role: entry.role });
+                return Some(Place {
+                    newer: (self.count - 1 - i) as u16,
+                    role: entry.role,
+                });
             }
         }
         None
@@ -103,12 +118,18 @@ impl Scope {
         ensures { λ r. ⌜ Resolved node role (placeOf (visible (now (self .entry))) name) r ⌝ }
     {
         let Some(place) = self.find(name) else {
-            return Err(Refusal { cause: Cause::NameNotVisible, node });
+            return Err(Refusal {
+                cause: Cause::NameNotVisible,
+                node,
+            });
         };
         if same(role, place.role) {
             Ok(place.newer)
         } else {
-            Err(Refusal { cause: Cause::NameRole, node })
+            Err(Refusal {
+                cause: Cause::NameRole,
+                node,
+            })
         }
     }
 }
@@ -117,7 +138,9 @@ fn same(wanted: Role, role: Role) -> bool
     ensures { λ r. ⌜ r ≡ sameRole wanted role ⌝ }
 {
     match (wanted, role) {
-        (Role::Value, Role::Value) | (Role::Procedure, Role::Procedure) | (Role::Function, Role::Function) => true,
+        (Role::Value, Role::Value)
+        | (Role::Procedure, Role::Procedure)
+        | (Role::Function, Role::Function) => true,
         _ => false,
     }
 }

@@ -86,7 +86,10 @@ pub fn function(nodes: &[Node], n: u16, code: &mut Code, scope: &mut Scope) -> R
     code.emit(Instruction::Jump(0), n);
     {
         let was = scope.count;
-        let mark = Mark { scope: &mut *scope, was };
+        let mark = Mark {
+            scope: &mut *scope,
+            was,
+        };
         mark.scope.bind(node.c as u8, Role::Value);
         expression(nodes, node.a, code, mark.scope)?;
     }

@@ -1,12 +1,8 @@
-use borrow.Author.Needs.{needs}
-use mathlib.Core.Path.{_≡_, refl, sym, ap, _∙_}
-use Prim.Native.Nat.{ℕ, _+_, _-_, _*_, _≤_, _<_}
+use mathlib.Core.Path.{ap, _∙_}
 use native.Mathlib.Omega.{arith}
-use lib.ListN.{length}
-use Rattle.std.specs.declared.result.Result.the-variants.{Ok, Err}
+use Rattle.std.specs.declared.result.Result.the-variants.{Err}
 use Rattle.std.proofs.shelf.Results.{err-from-errBy}
 use Rattle.language.specs.declared.kind.Sort.the-variants.{Command}
-use Rattle.language.specs.Sound.{IsC}
 use Rattle.language.specs.Table.{rootOf}
 use Rattle.language.proofs.ByKind.{is-from}
 use Rattle.language.proofs.Shape.{shaped, sound}
@@ -25,7 +21,8 @@ command-requires c κs =
       here = omega arith;
       sort = is-from Command nodes (rootOf nodes) (shaped nodes (c .pre .shape) .root);
       room = omega (arith, c .new-code .ensures .end);
-      names = omega (arith, c .new-scope .ensures .none) }
+      names = omega (arith, c .new-scope .ensures .none);
+    }
 
 pub returns-in-Break-command : need.returns-in-Break-command
 returns-in-Break-command c =
@@ -42,4 +39,4 @@ returns c =
     let nodes = c .args .nodes .now in
     let i = is-from Command nodes (rootOf nodes) (shaped nodes (c .pre .shape) .root) in
     program-done _ (c .new-scope .ensures .seen) (c .new-code .ensures .words) (c .new-code .ensures .end)
-      (numbered-C nodes (sound nodes (c .pre .shape)) (rootOf nodes) (omega arith) i) (c .in-Continue-command .ensures tt) (c .emit .ensures)
+    (numbered-C nodes (sound nodes (c .pre .shape)) (rootOf nodes) (omega arith) i) (c .in-Continue-command .ensures tt) (c .emit .ensures)

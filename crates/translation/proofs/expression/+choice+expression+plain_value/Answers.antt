@@ -1,15 +1,13 @@
 use borrow.Author.Needs.{needs}
-use mathlib.Core.Path.{_≡_, refl, sym, ap, _∙_}
-use Prim.Native.Nat.{ℕ, suc, _+_, _*_, _≤_, _<_}
+use mathlib.Core.Path.{refl, sym, ap, _∙_}
 use native.Mathlib.Omega.{arith}
-use Rattle.std.specs.declared.result.Result.the-variants.{Ok, Err}
+use Rattle.std.specs.declared.result.Result.the-variants.{Err}
 use mir.Syntax.{w32}
 use mir.Val.{SFits}
 use Rattle.std.proofs.shelf.Results.{err-from-errBy}
 use Rattle.std.proofs.shelf.Signed.{toZ-ofZ}
 use Rattle.language.specs.Names.{namesE}
 use Rattle.language.specs.Reading.{treeE}
-use Rattle.language.specs.Table.{at}
 use Rattle.language.specs.Tree.{sizeE}
 use Rattle.translation.proofs.Expressions.{ready-E, some-E, end-E, end-plain, same-E, refused-E, plain-done, first, second, number-done, name-done, operation-done, call-done, choice-done}
 use Rattle.translation.proofs.Forms.{at-20, at-21, at-22, at-23, at-24, at-25, at-26, numbered-E}

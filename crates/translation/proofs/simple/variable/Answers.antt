@@ -1,13 +1,9 @@
-use borrow.Author.Needs.{needs}
-use mathlib.Core.Path.{_≡_, refl, sym, ap, _∙_}
-use Prim.Native.Nat.{ℕ, suc, _+_, _*_, _≤_, _<_}
+use mathlib.Core.Path.{ap, _∙_}
 use native.Mathlib.Omega.{arith}
-use Rattle.std.specs.declared.result.Result.the-variants.{Ok, Err}
+use Rattle.std.specs.declared.result.Result.the-variants.{Err}
 use Rattle.std.proofs.shelf.Results.{err-from-errBy}
-use Rattle.language.specs.Names.{namesC, namesD}
-use Rattle.language.specs.Reading.{treeE, treeC, treeD}
-use Rattle.language.specs.Table.{at}
-use Rattle.language.specs.Tree.{sizeC, sizeD}
+use Rattle.language.specs.Names.{namesD}
+use Rattle.language.specs.Tree.{sizeD}
 use Rattle.translation.proofs.Declarations.{same-D, refused-D, variable-done}
 use Rattle.translation.proofs.Expressions.{ready-E, end-plain}
 use Rattle.translation.proofs.Forms.{at-11}
