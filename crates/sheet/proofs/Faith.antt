@@ -67,7 +67,8 @@ opened b e =
     record {
       frame = unless-ok (framed b) SheetHeader 0 (f .0);
       table = g .0;
-      code = sameBytes-decides (codePart b) (codeBytes (codeIn (tablePart b))) .0 (unless-ok same NotTheTranslation 0 (g .1)) }
+      code = sameBytes-decides (codePart b) (codeBytes (codeIn (tablePart b))) .0 (unless-ok same NotTheTranslation 0 (g .1));
+    }
 
 opens : (b : List ℕ) → Opened b → openVerdict b ≡ Ok tt
 opens b o =
@@ -90,7 +91,8 @@ sheet-opens t bytes e =
     opens (sheetOf p) (record {
       frame = sheet-framed p (omega arith);
       table = ap tableVerdict i ∙ e;
-      code = code-part p (omega arith) ∙ ap (λ (u : List ℕ). codeBytes (codeIn u)) (sym i) })
+      code = code-part p (omega arith) ∙ ap (λ (u : List ℕ). codeBytes (codeIn u)) (sym i);
+    })
 
 -- the header of a sheet that is framed is the one that is written
 head-is : (v n m s o t x y offset total : ℕ) → v ≡ 1 → s ≡ 16 → o ≡ offset → t ≡ total → x ≡ 0 → y ≡ 0
@@ -114,21 +116,22 @@ sheet-is b bytes o =
     let le : length (codePart b) ≡ 8 * length c = ap length (o .code) ∙ encoded-length wordBytes (λ w. refl) c in
     let M : m ≡ length c = omega arith in
     let head : take 16 b ≡ header n m (offsetOf n) (totalOf n m) =
-        sym (fields-bytes b bytes 8 0 (omega arith))
-        ∙ head-is (field b 0) n m (field b 6) (field b 8) (field b 10) (field b 12) (field b 14) (offsetOf n) (totalOf n m) (f .version) (f .start) (f .offset) (f .total) (f .spare) (f .last) in
+    sym (fields-bytes b bytes 8 0 (omega arith))
+    ∙ head-is (field b 0) n m (field b 6) (field b 8) (field b 10) (field b 12) (field b 14) (offsetOf n) (totalOf n m) (f .version) (f .start) (f .offset) (f .total) (f .spare) (f .last) in
     let table : t ≡ tableBytes (nodesOf t) = sym (table-bytes t (all-take (λ x. x < 256) (8 * n) (drop 16 b) (all-drop (λ x. x < 256) 16 b bytes)) (w .eights)) in
     let parts : drop 16 b ≡ t ++ codePart b = sym (take-append-drop (8 * n) (drop 16 b)) ∙ ap (λ (z : List ℕ). t ++ z) (drop-drop (8 * n) 16 b) in
     sym (take-append-drop 16 b)
     ∙ (ap (λ (z : List ℕ). z ++ drop 16 b) (head ∙ (ap (λ (k : ℕ). header k m (offsetOf k) (totalOf k m)) N ∙ ap (λ (k : ℕ). header (length (nodesOf t)) k (offsetOf (length (nodesOf t))) (totalOf (length (nodesOf t)) k)) M))
     ∙ ap (λ (z : List ℕ). header (length (nodesOf t)) (length c) (offsetOf (length (nodesOf t))) (sizeOf (programOf t)) ++ z)
-      (parts ∙ (ap (λ (z : List ℕ). z ++ codePart b) table ∙ ap (λ (z : List ℕ). tableBytes (nodesOf t) ++ z) (o .code))))
+    (parts ∙ (ap (λ (z : List ℕ). z ++ codePart b) table ∙ ap (λ (z : List ℕ). tableBytes (nodesOf t) ++ z) (o .code))))
 
 pub opens-sheets : OpensSheets
 opens-sheets b bytes = record {
   only = λ e.
-    let o = opened b e in
-    (tablePart b, record { bytes = all-take (λ x. x < 256) (8 * nodeCount b) (drop 16 b) (all-drop (λ x. x < 256) 16 b bytes); accepted = o .table; written = sheet-is b bytes o });
-  every = λ t s. ap openVerdict (s .written) ∙ sheet-opens t (s .bytes) (s .accepted) }
+      let o = opened b e in
+      (tablePart b, record { bytes = all-take (λ x. x < 256) (8 * nodeCount b) (drop 16 b) (all-drop (λ x. x < 256) 16 b bytes); accepted = o .table; written = sheet-is b bytes o });
+  every = λ t s. ap openVerdict (s .written) ∙ sheet-opens t (s .bytes) (s .accepted);
+}
 
 pub one-table : OneTable
 one-table b t u s r =
@@ -140,4 +143,5 @@ reopening t memory bytes e room =
     record {
       answer = w .answer;
       opens = ap openVerdict (w .sheet) ∙ sheet-opens t bytes e;
-      same = ap programOf (ap tablePart (w .sheet) ∙ table-in t bytes e) }
+      same = ap programOf (ap tablePart (w .sheet) ∙ table-in t bytes e);
+    }

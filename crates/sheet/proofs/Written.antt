@@ -56,4 +56,5 @@ module _ (p : Program) (memory : List ℕ) (room : sizeOf p ≤ length memory) w
       let m : finishMemory (Some p) (halfSheetOf p) begun ≡ sheetOf p ++ drop (sizeOf p) begun = rw (r, h) in
       record {
         answer = ap (finishAnswer (Some p) (halfSheetOf p)) started ∙ a;
-        sheet = ap (λ (z : List ℕ). take (sizeOf p) (finishMemory (Some p) (halfSheetOf p) z)) started ∙ (ap (take (sizeOf p)) m ∙ take-at (sheetOf p) (drop (sizeOf p) begun) (sizeOf p) (sheet-length p)) }
+        sheet = ap (λ (z : List ℕ). take (sizeOf p) (finishMemory (Some p) (halfSheetOf p) z)) started ∙ (ap (take (sizeOf p)) m ∙ take-at (sheetOf p) (drop (sizeOf p) begun) (sizeOf p) (sheet-length p));
+      }
