@@ -1,3 +1,4 @@
 pub mod Reports
 pub mod Model
 pub mod Calls
+pub mod Rewinding

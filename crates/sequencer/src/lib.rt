@@ -4,5 +4,6 @@ mod archive;
 mod begin;
 pub mod program;
 pub mod report;
+mod rewind;
 mod run;
 pub mod state;

@@ -1,0 +1,3 @@
+pub mod Grants
+pub mod Lawful
+pub mod Going
