@@ -30,9 +30,9 @@ use Rattle.machine.specs.State.{Config, config, ahead, ports, spentIn, noted}
 use Rattle.machine.specs.State.Dump.{frame}
 use Rattle.machine.specs.Instructions.{putIf}
 use Rattle.agreement.proofs.Steps.{Setup, Is, Reach, stay, then, also}
-use Rattle.agreement.proofs.Placed.{PlacedPlain, PlacedC, part-E, part-C, part-D, part-plain, operand-is}
+use Rattle.agreement.proofs.Placed.{expressions, plains, commands, declarations, Placed, part}
 use Rattle.agreement.proofs.Scene.{Match, roleOf, Corresponds, Scene, Waiting, on, AllInside, weight, bodies, Fits, fits-part, fits-on}
-use Rattle.agreement.proofs.Lookup.{Resolved, resolve}
+use Rattle.agreement.proofs.Lookup.{resolve, procedure-at}
 use Rattle.agreement.proofs.Instructions.{noting, with-room}
 use Rattle.agreement.proofs.Simulation.{aValue, aPlain, aCommand, is-done, is-ended, is-cut, andThen, lastly, at, Done, Does, SimC}
 use Rattle.agreement.proofs.Shared.{a-node-at-least, simPlain, choosing, calling}
@@ -43,13 +43,13 @@ module _ (S : Setup) where
   module _ (g : ℕ) (ih : SimC S g) (Γ : Scene (S .code)) (K : Waiting) (p : ℕ) (w : World) (b r : ℕ) (hb : b ≤ g) where
     -- the command t, begun with one visit more than b
     abbrev Claim : Command → Type 0
-    Claim t = PlacedC (S .code) t (Γ .scope) p → Fits (S .room) (Γ .bindings) K w r (sizeC t) →
+    Claim t = Placed commands (S .code) t (Γ .scope) p → Fits (S .room) (Γ .bindings) K w r (sizeC t) →
         Does S aCommand Γ K p (behindC t p) w (suc b) (sizeC t) (evalC (S .rules) (suc g) t (Γ .bindings) w (suc b))
 
     sequence-case : (nd : ℕ) (a c : Command) → Claim (sequence nd a c)
     unfolding evalC
     sequence-case nd a c placed fits =
-        let qa = part-C (S .code) a (Γ .scope) p _ (placed .named .0) (placed .stands) in
+        let qa = part (S .code) commands a (Γ .scope) p _ (placed .named .0) (placed .stands) in
         andThen S _ (stay S) (omega arith) (omega arith)
         (ih a Γ K p w b r (qa .0) (fits-part w (sizeC a) fits refl (omega arith)) hb)
         (λ u w₁ b₁ s₁ d₁.
@@ -61,9 +61,9 @@ module _ (S : Setup) where
     output-case : (nd : ℕ) (a : Expression) → Claim (output nd a)
     unfolding evalC
     output-case nd a placed fits =
-        let qa = part-plain (S .code) a (Γ .scope) p _ (placed .named) (placed .stands) in
+        let qa = part (S .code) plains a (Γ .scope) p _ (placed .named) (placed .stands) in
         andThen S _ (stay S) (omega arith) (omega arith)
-        (simPlain S g (simE S g) a Γ K p w b r _ (qa .0) fits (omega arith) hb)
+        (simPlain S g (simE S g) a Γ K p w b r (qa .0) (fits-part w (sizeE a) fits refl (omega arith)) hb)
         (λ v w₁ b₁ s₁ d₁. put v w₁ b₁ s₁ d₁ (hasRoom (S .rules) v w₁) (also S Put nd (d₁ .reach) (qa .1 .0) (omega arith) refl))
       where
         put : (v : Plain) (w₁ : World) (b₁ s₁ : ℕ) → Done S aPlain Γ K p (plainEnd a (behindE a p)) w b v w₁ b₁ s₁ →
@@ -76,13 +76,13 @@ module _ (S : Setup) where
     assign-case : (nd : ℕ) (a c : Expression) → Claim (assign nd a c)
     unfolding evalC
     assign-case nd a c placed fits =
-        let qa = part-E (S .code) a (Γ .scope) p _ (placed .named .0) (placed .stands) in
-        let qc = part-plain (S .code) c (Γ .scope) (suc (behindE a p)) _ (placed .named .1) (qa .1 .1) in
+        let qa = part (S .code) expressions a (Γ .scope) p _ (placed .named .0) (placed .stands) in
+        let qc = part (S .code) plains c (Γ .scope) (suc (behindE a p)) _ (placed .named .1) (qa .1 .1) in
         andThen S _ (stay S) (omega arith) (omega arith)
         (simE S g a Γ K p w b r (qa .0) (fits-part w (sizeE a) fits refl (omega arith)) hb)
         (λ v w₁ b₁ s₁ d₁. onto (qa .1 .0) (qc .0) (qc .1 .0) v w₁ b₁ s₁ d₁)
       where
-        onto : Is (S .code) (behindE a p) IsLoc nd → PlacedPlain (S .code) c (Γ .scope) (suc (behindE a p)) → Is (S .code) (plainEnd c (behindE c (suc (behindE a p)))) Store nd →
+        onto : Is (S .code) (behindE a p) IsLoc nd → Placed plains (S .code) c (Γ .scope) (suc (behindE a p)) → Is (S .code) (plainEnd c (behindE c (suc (behindE a p)))) Store nd →
             (v : Value) (w₁ : World) (b₁ s₁ : ℕ) → Done S aValue Γ K p (behindE a p) w b v w₁ b₁ s₁ →
             Does S aCommand Γ K p (behindC (assign nd a c) p) w (suc b) (sizeC (assign nd a c))
             (located nd v w₁ b₁ λ l. bind (plainly (evalE (S .rules) g c (Γ .bindings) w₁ b₁)) λ q w₂ b₂. done tt (withCells w₂ (set (w₂ .cells) l q)) b₂)
@@ -91,34 +91,24 @@ module _ (S : Setup) where
             let r₁ = also S IsLoc nd (d₁ .reach) isloc (omega arith) refl in
             let i = d₁ .inside in let na = a-node-at-least a in
             andThen S _ r₁ (omega arith) (omega arith)
-            (simPlain S g (simE S g) c Γ (on (Location l) K) (suc (behindE a p)) w₁ b₁ (suc r) (sizeE c) right
-              (fits-on w₁ (sizeE c) (Location l) fits (d₁ .same) (omega arith)) (omega arith) (omega arith))
+            (simPlain S g (simE S g) c Γ (on (Location l) K) (suc (behindE a p)) w₁ b₁ (suc r) right
+              (fits-on w₁ (sizeE c) (Location l) fits (d₁ .same) (omega arith)) (omega arith))
             (λ v w₂ b₂ s₂ d₂.
               is-done S (s₁ + 1 + s₂ + 1) (record {
                 reach = also S Store nd (then S r₁ (d₂ .reach)) store (omega arith)
                   (noting nd (ports (w₂ .feed) (w₂ .strip) (w₂ .space)) (with-room l (length (w₂ .cells)) _ (omega arith)));
                 most = omega arith; least = omega arith; same = length-set (w₂ .cells) l v ∙ (d₂ .same ∙ d₁ .same); inside = tt }))
 
-    when-case : (nd : ℕ) (a : Expression) (c d : Command) → Claim (when nd a c d)
-    unfolding evalC
-    when-case nd a c d placed fits =
-        let qa = part-plain (S .code) a (Γ .scope) p _ (placed .named .0) (placed .stands) in
-        let qc = part-C (S .code) c (Γ .scope) (suc (plainEnd a (behindE a p))) _ (placed .named .1) (qa .1 .1) in
-        choosing S aCommand nd Γ K p (plainEnd a (behindE a p)) _ _ w b r (sizeE a) (sizeC c) (sizeC d) _ (λ w₁ b₁. evalC (S .rules) g c (Γ .bindings) w₁ b₁) (λ w₁ b₁. evalC (S .rules) g d (Γ .bindings) w₁ b₁) fits
-        (simPlain S g (simE S g) a Γ K p w b r _ (qa .0) fits (omega arith) hb) (qa .1 .0) (qc .1 .0)
-        (λ w₁ b₁ e l. ih c Γ K _ w₁ b₁ r (qc .0) (fits-part w₁ (sizeC c) fits e (omega arith)) (omega arith))
-        (λ w₁ b₁ e l. ih d Γ K _ w₁ b₁ r (record { named = placed .named .2; stands = qc .1 .1 }) (fits-part w₁ (sizeC d) fits e (omega arith)) (omega arith))
-
     while-case : (nd : ℕ) (a : Expression) (c : Command) → Claim (while nd a c)
     unfolding evalC
     while-case nd a c placed fits =
-        let qa = part-plain (S .code) a (Γ .scope) p _ (placed .named .0) (placed .stands) in
-        let qc = part-C (S .code) c (Γ .scope) (suc (plainEnd a (behindE a p))) _ (placed .named .1) (qa .1 .1) in
+        let qa = part (S .code) plains a (Γ .scope) p _ (placed .named .0) (placed .stands) in
+        let qc = part (S .code) commands c (Γ .scope) (suc (plainEnd a (behindE a p))) _ (placed .named .1) (qa .1 .1) in
         andThen S _ (stay S) (omega arith) (omega arith)
-        (simPlain S g (simE S g) a Γ K p w b r _ (qa .0) fits (omega arith) hb)
+        (simPlain S g (simE S g) a Γ K p w b r (qa .0) (fits-part w (sizeE a) fits refl (omega arith)) hb)
         (λ x w₁ b₁ s₁ d₁. go (qa .1 .0) (qc .0) (qc .1 .0) x w₁ b₁ s₁ d₁)
       where
-        go : Is (S .code) (plainEnd a (behindE a p)) (JumpFalse (behindC (while nd a c) p)) nd → PlacedC (S .code) c (Γ .scope) (suc (plainEnd a (behindE a p))) →
+        go : Is (S .code) (plainEnd a (behindE a p)) (JumpFalse (behindC (while nd a c) p)) nd → Placed commands (S .code) c (Γ .scope) (suc (plainEnd a (behindE a p))) →
             Is (S .code) (behindC c (suc (plainEnd a (behindE a p)))) (Jump p) nd →
             (x : Plain) (w₁ : World) (b₁ s₁ : ℕ) → Done S aPlain Γ K p (plainEnd a (behindE a p)) w b x w₁ b₁ s₁ →
             Does S aCommand Γ K p (behindC (while nd a c) p) w (suc b) (sizeC (while nd a c))
@@ -143,8 +133,8 @@ module _ (S : Setup) where
     block-case : (nd : ℕ) (d : Declaration) (c : Command) → Claim (block nd d c)
     unfolding evalC
     block-case nd d c placed fits =
-        let qd = part-D (S .code) d (Γ .scope) (suc p) _ (placed .named .0) (placed .stands .1) in
-        let qc = part-C (S .code) c (scopeAfter d (Γ .scope)) (behindD d (suc p)) _ (placed .named .1) (qd .1) in
+        let qd = part (S .code) declarations d (Γ .scope) (suc p) _ (placed .named .0) (placed .stands .1) in
+        let qc = part (S .code) commands c (scopeAfter d (Γ .scope)) (behindD d (suc p)) _ (placed .named .1) (qd .1) in
         let K₀ : Waiting = record { values = K .values; used = K .used; dump = frame (Γ .environment) (K .used) (length (w .cells)) ∷ K .dump } in
         let r₀ : Reach S (at S Γ K p w) 1 (at S Γ K₀ (suc p) w) =
           also S Enter nd (stay S) (placed .stands .0) (omega arith) (noting nd (ports (w .feed) (w .strip) (w .space)) (with-room (length (K .dump)) (S .rules .limit) _ (omega arith))) in
@@ -165,29 +155,17 @@ module _ (S : Setup) where
     procedureCall-case : (nd f : ℕ) (a : Expression) → Claim (procedureCall nd f a)
     unfolding evalC
     procedureCall-case nd f a placed fits =
-        let q = resolve (S .code) f (placed .named .0 .0) Procedure (Γ .corresponds) (placed .named .0 .1) in
+        let n = placed .named .0 in
+        let q = procedure-at (S .code) _ _ _ _ (resolve (S .code) f (n .0) Procedure (Γ .corresponds) (n .1)) in
         subst (λ F. Does S aCommand Γ K p (suc (behindE a p)) w (suc b) (suc (sizeE a)) (bind (evalE (S .rules) g a (Γ .bindings) w b) λ v w₁ b₁. asProcedure F λ y t rest. evalC (S .rules) g t (binding y (value v) ∷ rest) w₁ b₁)) (sym (q .is))
-        (go (q .denoted) (q .rest) (q .scope) (q .bound) (q .role) (q .slot) (q .match) (q .behind) (q .fewer) (q .inside (length (w .cells)) (fits .inside) .1))
-      where
-        go : (th : Denoted) (rest : List Binding) (sc : List Entry) (bd : Bound) → roleOf th ≡ Procedure → found (Γ .environment) (placed .named .0 .0) ≡ Some bd →
-            Match (S .code) sc th bd → Corresponds (S .code) sc rest (drop (suc (placed .named .0 .0)) (Γ .environment)) → weight th + bodies rest ≤ bodies (Γ .bindings) →
-            AllInside (length (w .cells)) rest →
-            Does S aCommand Γ K p (suc (behindE a p)) w (suc b) (suc (sizeE a)) (bind (evalE (S .rules) g a (Γ .bindings) w b) λ v w₁ b₁. asProcedure (named th rest) λ y t rest. evalC (S .rules) g t (binding y (value v) ∷ rest) w₁ b₁)
-        go (value v) rest sc bd e slot h behind fewer inside = let z : _≡_ {A = ℕ} 0 1 = cc in absurd (omega arith)
-        go (functionBody y t) rest sc bd e slot h behind fewer inside = let z : _≡_ {A = ℕ} 0 1 = cc in absurd (omega arith)
-        go (procedureBody y t) rest sc bd e slot h behind fewer inside =
-            let qa = part-E (S .code) a (Γ .scope) p _ (placed .named .1) (placed .stands) in
-            calling S aCommand nd _ Γ K p (behindE a p) (h .start) _ y (h .node) w b r (sizeE a) (sizeC t) sc rest _ _ behind fits
-            (simE S g a Γ K p w b r (qa .0) (fits-part w (sizeE a) fits refl (omega arith)) hb)
-            (operand-is (S .code) Call (behindE a p) nd (Γ .scope) f Procedure (placed .named .0) (qa .1 .0)) (slot ∙ ap Some (h .is)) (h .returns) fewer inside
-            (λ v K₁ w₁ b₁ r₁ fits₁ l. ih t _ K₁ (h .start) w₁ b₁ r₁ (h .body) fits₁ (omega arith))
+        (calling S g (simE S g) commands aCommand (evalC (S .rules) g) ih Γ K p w b r hb nd f a Procedure n _ _ q (placed .named .1) (placed .stands) fits)
 
   next : (g : ℕ) → SimC S g → SimC S (suc g)
   unfolding evalC
   next g ih t Γ K p w zero r placed fits hb = is-cut S (omega arith)
   next g ih (assign nd a c) Γ K p w (suc b) r placed fits hb = assign-case g ih Γ K p w b r (omega arith) nd a c placed fits
   next g ih (output nd a) Γ K p w (suc b) r placed fits hb = output-case g ih Γ K p w b r (omega arith) nd a placed fits
-  next g ih (when nd a c d) Γ K p w (suc b) r placed fits hb = when-case g ih Γ K p w b r (omega arith) nd a c d placed fits
+  next g ih (when nd a c d) Γ K p w (suc b) r placed fits hb = choosing S g (simE S g) commands aCommand (evalC (S .rules) g) ih Γ K p w b r (omega arith) nd a c d (placed .named) (placed .stands) fits
   next g ih (while nd a c) Γ K p w (suc b) r placed fits hb = while-case g ih Γ K p w b r (omega arith) nd a c placed fits
   next g ih (block nd d c) Γ K p w (suc b) r placed fits hb = block-case g ih Γ K p w b r (omega arith) nd d c placed fits
   next g ih (sequence nd a c) Γ K p w (suc b) r placed fits hb = sequence-case g ih Γ K p w b r (omega arith) nd a c placed fits

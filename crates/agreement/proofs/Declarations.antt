@@ -4,14 +4,14 @@ use mathlib.Core.List.{List, [], _∷_, _++_}
 use Prim.Native.Nat.{ℕ, zero, suc, _+_, _*_, _≤_, _<_}
 use native.Mathlib.Omega.{arith}
 use lib.ListN.{length, length-append}
-use Rattle.vocabulary.specs.declared.code.Instruction.the-variants.{Jump, Bind, New, Clos}
+use Rattle.vocabulary.specs.declared.code.Instruction.the-variants.{Jump, Ret, Bind, New, Clos}
 use Rattle.vocabulary.specs.declared.value.Value.{Value}
 use Rattle.vocabulary.specs.declared.value.Value.the-variants.{Plain as plain, Location}
 use Rattle.vocabulary.specs.World.{World, withCells}
 use Rattle.language.specs.Tree.{Expression, Declaration, sizeE, sizeC, sizeD}
 use Rattle.language.specs.Tree.Declaration.{constant, variable, procedure, function, pair}
 use Rattle.language.specs.Scope.{entry, scopeAfter, scopeInside}
-use Rattle.language.specs.Translation.{behindE, behindC, behindD, plainEnd}
+use Rattle.language.specs.Translation.{one, behindE, behindC, behindD, plainEnd}
 use Rattle.language.specs.Outcomes.{Denoted}
 use Rattle.language.specs.Outcomes.Binding.{binding}
 use Rattle.language.specs.Outcomes.Denoted.{value, procedureBody, functionBody}
@@ -23,8 +23,8 @@ use Rattle.machine.specs.State.{Config, config, ahead, sides, ports}
 use Rattle.machine.specs.State.State.{running}
 use Rattle.machine.specs.Instructions.{withStack, withStore}
 use Rattle.agreement.proofs.Steps.{Setup, Is, Reach, stay, then, also}
-use Rattle.agreement.proofs.Placed.{PlacedD, part-E, part-C, part-D, part-plain}
-use Rattle.agreement.proofs.Scene.{Match, roleOf, Scene, Waiting, DenotesInside, all-inside-more, weight, bodies, Fits, fits-part}
+use Rattle.agreement.proofs.Placed.{Sort, expressions, plains, commands, declarations, Stands, Placed, part}
+use Rattle.agreement.proofs.Scene.{BodyAt, Match, roleOf, Scene, Waiting, DenotesInside, all-inside-more, weight, bodies, Fits, fits-part}
 use Rattle.agreement.proofs.Scene.Corresponds.{more}
 use Rattle.agreement.proofs.Instructions.{noting, with-room, bind-with-room}
 use Rattle.agreement.proofs.Simulation.{is-done, is-cut, andThen, lastly, at, Declared, Declares, SimD}
@@ -44,25 +44,31 @@ module _ (S : Setup) where
         reach = reach; most = most; least = least; kept = kept; inside = (inside, all-inside-more _ _ kept (Γ .bindings) (fits .inside));
         fewUsed = omega arith; fewCells = few; higher = omega arith; enough = omega arith })
 
-    -- a routine: CLOS binds the position of its body, and a jump leads around that
-    routine-case : (nd q z x : ℕ) (th : Denoted) (c : ℕ) → b ≡ suc c → Fits (S .room) (Γ .bindings) K w r z → weight th < z →
-        Is (S .code) p (Clos (suc (suc p))) nd → Is (S .code) (suc p) (Jump q) nd → Match (S .code) (Γ .scope) th (Body (suc (suc p))) → DenotesInside (length (w .cells)) th →
-        Declares S Γ K p q w b r z (entry x (roleOf th) ∷ Γ .scope) (done (binding x th ∷ Γ .bindings) w c)
-    routine-case nd q z x th c e fits lighter clos jump match inside =
+    -- a routine of a sort: CLOS binds the position of its body, and a jump leads around that
+    routine-case : {T : Type 0} (σ : Sort T) (nd x y : ℕ) (t : T) (th : Denoted) (c : ℕ) → b ≡ suc c → weight th ≡ σ .size t → DenotesInside (length (w .cells)) th →
+        ((bound : Bound) → BodyAt σ (S .code) t (scopeInside y (Γ .scope)) bound → Match (S .code) (Γ .scope) th bound) →
+        σ .Named t (scopeInside y (Γ .scope)) →
+        (let q = suc (suc p) in
+        Stands (S .code) p (one (Clos q) nd ++ (one (Jump (suc (σ .behind t q))) nd ++ (σ .code t (scopeInside y (Γ .scope)) q ++ one Ret nd))) →
+        Fits (S .room) (Γ .bindings) K w r (suc (σ .size t)) →
+        Declares S Γ K p (suc (σ .behind t q)) w b r (suc (σ .size t)) (entry x (roleOf th) ∷ Γ .scope) (done (binding x th ∷ Γ .bindings) w c))
+    routine-case σ nd x y t th c e weighs inside match named stands fits =
         let here : Config = config p (K .values) (Γ .environment) (K .used) (K .dump) w in
-        one-binding q z x th (Body (suc (suc p))) w c 2 fits lighter match inside
-        (also S _ nd (also S _ nd (stay S) clos (omega arith) (noting nd (sides here) (bind-with-room (S .rules .limit) (Body (suc (suc p))) (ahead here) (omega arith)))) jump (omega arith) refl)
+        let q = part (S .code) σ t (scopeInside y (Γ .scope)) (suc (suc p)) _ named (stands .1 .1) in
+        one-binding _ _ x th (Body (suc (suc p))) w c 2 fits (omega arith)
+        (match _ (record { start = suc (suc p); node = nd; is = refl; placed = q .0; returns = q .1 .0 })) inside
+        (also S _ nd (also S _ nd (stay S) (stands .0) (omega arith) (noting nd (sides here) (bind-with-room (S .rules .limit) (Body (suc (suc p))) (ahead here) (omega arith)))) (stands .1 .0) (omega arith) refl)
         (omega arith) (omega arith) (omega arith) (omega arith)
 
   module _ (g : ℕ) (Γ : Scene (S .code)) (K : Waiting) (p : ℕ) (w : World) (b r : ℕ) (hb : b ≤ g) where
-    constant-case : (nd x : ℕ) (a : Expression) → PlacedD (S .code) (constant nd x a) (Γ .scope) p → Fits (S .room) (Γ .bindings) K w r (sizeD (constant nd x a)) →
+    constant-case : (nd x : ℕ) (a : Expression) → Placed declarations (S .code) (constant nd x a) (Γ .scope) p → Fits (S .room) (Γ .bindings) K w r (sizeD (constant nd x a)) →
         Declares S Γ K p (behindD (constant nd x a) p) w (suc b) r (sizeD (constant nd x a)) (scopeAfter (constant nd x a) (Γ .scope))
         (evalD (S .rules) (suc g) (constant nd x a) (Γ .bindings) w (suc b))
     unfolding evalD
     constant-case nd x a placed fits =
-        let qa = part-plain (S .code) a (Γ .scope) p _ (placed .named) (placed .stands) in
+        let qa = part (S .code) plains a (Γ .scope) p _ (placed .named) (placed .stands) in
         andThen S _ (stay S) (omega arith) (omega arith)
-        (simPlain S g (simE S g) a Γ K p w b r _ (qa .0) fits (omega arith) hb)
+        (simPlain S g (simE S g) a Γ K p w b r (qa .0) (fits-part w (sizeE a) fits refl (omega arith)) hb)
         (λ v w₁ b₁ s₁ d₁.
           let here : Config = config (plainEnd a (behindE a p)) (plain v ∷ K .values) (Γ .environment) (K .used) (K .dump) w₁ in
           one-binding Γ K p w (suc b) r _ _ x (value (plain v)) (Holds (plain v)) w₁ b₁ (s₁ + 1) fits (omega arith) refl tt
@@ -70,14 +76,14 @@ module _ (S : Setup) where
             (noting nd (sides here) (bind-with-room (S .rules .limit) (Holds (plain v)) (withStack (K .values) (ahead here)) (omega arith))))
           (omega arith) (omega arith) (omega arith) (omega arith))
 
-    variable-case : (nd x : ℕ) (a : Expression) → PlacedD (S .code) (variable nd x a) (Γ .scope) p → Fits (S .room) (Γ .bindings) K w r (sizeD (variable nd x a)) →
+    variable-case : (nd x : ℕ) (a : Expression) → Placed declarations (S .code) (variable nd x a) (Γ .scope) p → Fits (S .room) (Γ .bindings) K w r (sizeD (variable nd x a)) →
         Declares S Γ K p (behindD (variable nd x a) p) w (suc b) r (sizeD (variable nd x a)) (scopeAfter (variable nd x a) (Γ .scope))
         (evalD (S .rules) (suc g) (variable nd x a) (Γ .bindings) w (suc b))
     unfolding evalD
     variable-case nd x a placed fits =
-        let qa = part-plain (S .code) a (Γ .scope) p _ (placed .named) (placed .stands) in
+        let qa = part (S .code) plains a (Γ .scope) p _ (placed .named) (placed .stands) in
         andThen S _ (stay S) (omega arith) (omega arith)
-        (simPlain S g (simE S g) a Γ K p w b r _ (qa .0) fits (omega arith) hb)
+        (simPlain S g (simE S g) a Γ K p w b r (qa .0) (fits-part w (sizeE a) fits refl (omega arith)) hb)
         (λ v w₁ b₁ s₁ d₁.
           let here : Config = config (plainEnd a (behindE a p)) (plain v ∷ K .values) (Γ .environment) (K .used) (K .dump) w₁ in
           let new : Value = Location (length (w₁ .cells)) in
@@ -88,12 +94,12 @@ module _ (S : Setup) where
               ∙ bind-with-room (S .rules .limit) (Holds new) (withStore (w₁ .cells ++ (v ∷ [])) (withStack (K .values) (ahead here))) (omega arith))))
           (omega arith) (omega arith) (omega arith) (omega arith))
 
-    pair-case : SimD S g → (nd : ℕ) (a c : Declaration) → PlacedD (S .code) (pair nd a c) (Γ .scope) p → Fits (S .room) (Γ .bindings) K w r (sizeD (pair nd a c)) →
+    pair-case : SimD S g → (nd : ℕ) (a c : Declaration) → Placed declarations (S .code) (pair nd a c) (Γ .scope) p → Fits (S .room) (Γ .bindings) K w r (sizeD (pair nd a c)) →
         Declares S Γ K p (behindD (pair nd a c) p) w (suc b) r (sizeD (pair nd a c)) (scopeAfter (pair nd a c) (Γ .scope))
         (evalD (S .rules) (suc g) (pair nd a c) (Γ .bindings) w (suc b))
     unfolding evalD
     pair-case ih nd a c placed fits =
-        let qa = part-D (S .code) a (Γ .scope) p _ (placed .named .0) (placed .stands) in
+        let qa = part (S .code) declarations a (Γ .scope) p _ (placed .named .0) (placed .stands) in
         andThen S _ (stay S) (omega arith) (omega arith)
         (ih a Γ K p w b r (qa .0) (fits-part w (sizeD a) fits refl (omega arith)) hb)
         (λ bs w₁ b₁ s₁ d₁.
@@ -114,13 +120,9 @@ module _ (S : Setup) where
   next g ih (constant nd x a) Γ K p w (suc b) r placed fits hb = constant-case g Γ K p w b r (omega arith) nd x a placed fits
   next g ih (variable nd x a) Γ K p w (suc b) r placed fits hb = variable-case g Γ K p w b r (omega arith) nd x a placed fits
   next g ih (procedure nd x t y) Γ K p w (suc b) r placed fits hb =
-      let q = part-C (S .code) t (scopeInside y (Γ .scope)) (suc (suc p)) _ (placed .named) (placed .stands .1 .1) in
-      routine-case Γ K p w (suc b) r nd _ _ x (procedureBody y t) b refl fits (omega arith) (placed .stands .0) (placed .stands .1 .0)
-      (record { start = suc (suc p); node = nd; is = refl; body = q .0; returns = q .1 .0 }) tt
+      routine-case Γ K p w (suc b) r commands nd x y t (procedureBody y t) b refl refl tt (λ bound m. m) (placed .named) (placed .stands) fits
   next g ih (function nd x t y) Γ K p w (suc b) r placed fits hb =
-      let q = part-E (S .code) t (scopeInside y (Γ .scope)) (suc (suc p)) _ (placed .named) (placed .stands .1 .1) in
-      routine-case Γ K p w (suc b) r nd _ _ x (functionBody y t) b refl fits (omega arith) (placed .stands .0) (placed .stands .1 .0)
-      (record { start = suc (suc p); node = nd; is = refl; body = q .0; returns = q .1 .0 }) tt
+      routine-case Γ K p w (suc b) r expressions nd x y t (functionBody y t) b refl refl tt (λ bound m. m) (placed .named) (placed .stands) fits
   next g ih (pair nd a c) Γ K p w (suc b) r placed fits hb = pair-case g Γ K p w b r (omega arith) ih nd a c placed fits
 
   pub simD : (g : ℕ) → SimD S g

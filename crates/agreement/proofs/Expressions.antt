@@ -26,7 +26,7 @@ use Rattle.language.specs.declared.name.Role.the-variants.{Value as valueRole, 
 use Rattle.language.specs.Tree.{Expression, sizeE}
 use Rattle.language.specs.Tree.Expression.{number, truth, read, name, operation, functionCall, choice}
 use Rattle.language.specs.Translation.{behindE, plainEnd}
-use Rattle.language.specs.Outcomes.{Denoted, Binding, bind, valued, asFunction, taken, answered}
+use Rattle.language.specs.Outcomes.{Denoted, Binding, bind, find, valued, asFunction, taken, answered}
 use Rattle.language.specs.Outcomes.Binding.{binding}
 use Rattle.language.specs.Outcomes.Denoted.{value, procedureBody, functionBody}
 use Rattle.language.specs.Outcomes.Found.{named}
@@ -39,9 +39,9 @@ use Rattle.machine.specs.State.State.{halted}
 use Rattle.machine.specs.Instructions.{push, read as readItem, look, answer}
 use Rattle.machine.specs.Machine.{exec}
 use Rattle.agreement.proofs.Steps.{Setup, Is, Reach, stay, then, also}
-use Rattle.agreement.proofs.Placed.{PlacedE, part-E, part-plain, operand-is}
+use Rattle.agreement.proofs.Placed.{expressions, plains, Placed, part, operand-is}
 use Rattle.agreement.proofs.Scene.{Match, roleOf, Corresponds, Scene, Waiting, on, Inside, DenotesInside, AllInside, weight, bodies, Fits, fits-part, fits-on}
-use Rattle.agreement.proofs.Lookup.{Resolved, resolve}
+use Rattle.agreement.proofs.Lookup.{resolve, value-at, function-at}
 use Rattle.agreement.proofs.Instructions.{noting, push-with-room}
 use Rattle.agreement.proofs.Simulation.{aValue, is-done, is-ended, is-cut, andThen, at, Done, Does, SimE}
 use Rattle.agreement.proofs.Shared.{a-node-at-least, simPlain, choosing, calling}
@@ -69,37 +69,30 @@ module _ (S : Setup) where
         go (Reading z ∷ f) e x = pushes Read nd (plain (Number z)) f fits is tt x
         go (Fault j ∷ f) e x = is-ended S 1 (also S Read nd (stay S) is (omega arith) x) (omega arith)
 
-    name-case : (nd x : ℕ) → Fits (S .room) (Γ .bindings) K w r 1 → PlacedE (S .code) (name nd x) (Γ .scope) p → (g : ℕ) →
-        Does S aValue Γ K p (suc p) w (suc b) 1 (evalE (S .rules) (suc g) (name nd x) (Γ .bindings) w (suc b))
-    unfolding evalE
-    name-case nd x fits placed g =
-        let q = resolve (S .code) x (placed .named .0) valueRole (Γ .corresponds) (placed .named .1) in
+    name-case : (nd x : ℕ) → Fits (S .room) (Γ .bindings) K w r 1 → Placed expressions (S .code) (name nd x) (Γ .scope) p →
+        Does S aValue Γ K p (suc p) w (suc b) 1 (valued (find (Γ .bindings) x) w b)
+    name-case nd x fits placed =
+        let n = placed .named in
+        let q = value-at (S .code) _ _ _ _ (resolve (S .code) x (n .0) valueRole (Γ .corresponds) (n .1)) in
         subst (λ f. Does S aValue Γ K p (suc p) w (suc b) 1 (valued f w b)) (sym (q .is))
-        (go (q .denoted) (q .rest) (q .scope) (q .bound) (q .role) (q .slot) (q .match) (q .inside (length (w .cells)) (fits .inside) .0))
-      where
-        go : (th : Denoted) (rest : List Binding) (sc : List Entry) (bd : Bound) → roleOf th ≡ valueRole → found (Γ .environment) (placed .named .0) ≡ Some bd →
-            Match (S .code) sc th bd → DenotesInside (length (w .cells)) th → Does S aValue Γ K p (suc p) w (suc b) 1 (valued (named th rest) w b)
-        go (value v) rest sc bd e f h i =
-            pushes (Look (placed .named .0)) nd v (w .feed) fits (operand-is (S .code) Look p nd (Γ .scope) x valueRole (placed .named) (placed .stands .0)) i
-            (noting nd (sides here) (ap (λ o. look (S .rules .limit) o (ahead here)) (f ∙ ap Some h)))
-        go (procedureBody y t) rest sc bd e f h i = let z : _≡_ {A = ℕ} 0 1 = cc in absurd (omega arith)
-        go (functionBody y t) rest sc bd e f h i = let z : _≡_ {A = ℕ} 0 1 = cc in absurd (omega arith)
+        (pushes (Look (n .0)) nd (q .value) (w .feed) fits (operand-is (S .code) Look p nd (Γ .scope) x valueRole n (placed .stands .0)) (q .inside _ (fits .inside))
+          (noting nd (sides here) (ap (λ o. look (S .rules .limit) o (ahead here)) (q .slot))))
 
   module _ (g : ℕ) (ih : SimE S g) (Γ : Scene (S .code)) (K : Waiting) (p : ℕ) (w : World) (b r : ℕ) (hb : b ≤ g) where
-    operation-case : (nd : ℕ) (o : Operation) (a c : Expression) → PlacedE (S .code) (operation nd o a c) (Γ .scope) p →
+    operation-case : (nd : ℕ) (o : Operation) (a c : Expression) → Placed expressions (S .code) (operation nd o a c) (Γ .scope) p →
         Fits (S .room) (Γ .bindings) K w r (sizeE (operation nd o a c)) →
         Does S aValue Γ K p (behindE (operation nd o a c) p) w (suc b) (sizeE (operation nd o a c)) (evalE (S .rules) (suc g) (operation nd o a c) (Γ .bindings) w (suc b))
     unfolding evalE
     operation-case nd o a c placed fits =
         let p₁ = plainEnd a (behindE a p) in
         let na = a-node-at-least a in
-        let qa = part-plain (S .code) a (Γ .scope) p _ (placed .named .0) (placed .stands) in
-        let qc = part-plain (S .code) c (Γ .scope) p₁ _ (placed .named .1) (qa .1) in
+        let qa = part (S .code) plains a (Γ .scope) p _ (placed .named .0) (placed .stands) in
+        let qc = part (S .code) plains c (Γ .scope) p₁ _ (placed .named .1) (qa .1) in
         andThen S _ (stay S) (omega arith) (omega arith)
-        (simPlain S g ih a Γ K p w b r _ (qa .0) fits (omega arith) hb)
+        (simPlain S g ih a Γ K p w b r (qa .0) (fits-part w (sizeE a) fits refl (omega arith)) hb)
         (λ x w₁ b₁ s₁ d₁.
           andThen S _ (d₁ .reach) (omega arith) (omega arith)
-          (simPlain S g ih c Γ (on (plain x) K) p₁ w₁ b₁ (suc r) (sizeE c) (qc .0) (fits-on w₁ (sizeE c) (plain x) fits (d₁ .same) (omega arith)) (omega arith) (omega arith))
+          (simPlain S g ih c Γ (on (plain x) K) p₁ w₁ b₁ (suc r) (qc .0) (fits-on w₁ (sizeE c) (plain x) fits (d₁ .same) (omega arith)) (omega arith))
           (λ y w₂ b₂ s₂ d₂. result x y (S .rules .operate o (plain x) (plain y)) w₂ b₂ (s₁ + s₂ + 1)
             (also S (Op o) nd (then S (d₁ .reach) (d₂ .reach)) (qc .1 .0) (omega arith) refl) (omega arith) (omega arith) (d₂ .same ∙ d₁ .same)))
       where
@@ -110,39 +103,15 @@ module _ (S : Setup) where
         result x y (Ok q) w₂ b₂ s re most least e = is-done S s (record { reach = re; most = most; least = least; same = e; inside = tt })
         result x y (Err n) w₂ b₂ s re most least e = is-ended S s re (omega arith)
 
-    choice-case : (nd : ℕ) (a c d : Expression) → PlacedE (S .code) (choice nd a c d) (Γ .scope) p →
-        Fits (S .room) (Γ .bindings) K w r (sizeE (choice nd a c d)) →
-        Does S aValue Γ K p (behindE (choice nd a c d) p) w (suc b) (sizeE (choice nd a c d)) (evalE (S .rules) (suc g) (choice nd a c d) (Γ .bindings) w (suc b))
-    unfolding evalE
-    choice-case nd a c d placed fits =
-        let qa = part-plain (S .code) a (Γ .scope) p _ (placed .named .0) (placed .stands) in
-        let qc = part-E (S .code) c (Γ .scope) (suc (plainEnd a (behindE a p))) _ (placed .named .1) (qa .1 .1) in
-        choosing S aValue nd Γ K p (plainEnd a (behindE a p)) _ _ w b r (sizeE a) (sizeE c) (sizeE d) _ (λ w₁ b₁. evalE (S .rules) g c (Γ .bindings) w₁ b₁) (λ w₁ b₁. evalE (S .rules) g d (Γ .bindings) w₁ b₁) fits
-        (simPlain S g ih a Γ K p w b r _ (qa .0) fits (omega arith) hb) (qa .1 .0) (qc .1 .0)
-        (λ w₁ b₁ e l. ih c Γ K _ w₁ b₁ r (qc .0) (fits-part w₁ (sizeE c) fits e (omega arith)) (omega arith))
-        (λ w₁ b₁ e l. ih d Γ K _ w₁ b₁ r (record { named = placed .named .2; stands = qc .1 .1 }) (fits-part w₁ (sizeE d) fits e (omega arith)) (omega arith))
-
-    functionCall-case : (nd f : ℕ) (a : Expression) → PlacedE (S .code) (functionCall nd f a) (Γ .scope) p →
+    functionCall-case : (nd f : ℕ) (a : Expression) → Placed expressions (S .code) (functionCall nd f a) (Γ .scope) p →
         Fits (S .room) (Γ .bindings) K w r (sizeE (functionCall nd f a)) →
         Does S aValue Γ K p (behindE (functionCall nd f a) p) w (suc b) (sizeE (functionCall nd f a)) (evalE (S .rules) (suc g) (functionCall nd f a) (Γ .bindings) w (suc b))
     unfolding evalE
     functionCall-case nd f a placed fits =
-        let q = resolve (S .code) f (placed .named .0 .0) Function (Γ .corresponds) (placed .named .0 .1) in
+        let n = placed .named .0 in
+        let q = function-at (S .code) _ _ _ _ (resolve (S .code) f (n .0) Function (Γ .corresponds) (n .1)) in
         subst (λ F. Does S aValue Γ K p (suc (behindE a p)) w (suc b) (suc (sizeE a)) (bind (evalE (S .rules) g a (Γ .bindings) w b) λ v w₁ b₁. asFunction F λ y t rest. evalE (S .rules) g t (binding y (value v) ∷ rest) w₁ b₁)) (sym (q .is))
-        (go (q .denoted) (q .rest) (q .scope) (q .bound) (q .role) (q .slot) (q .match) (q .behind) (q .fewer) (q .inside (length (w .cells)) (fits .inside) .1))
-      where
-        go : (th : Denoted) (rest : List Binding) (sc : List Entry) (bd : Bound) → roleOf th ≡ Function → found (Γ .environment) (placed .named .0 .0) ≡ Some bd →
-            Match (S .code) sc th bd → Corresponds (S .code) sc rest (drop (suc (placed .named .0 .0)) (Γ .environment)) → weight th + bodies rest ≤ bodies (Γ .bindings) →
-            AllInside (length (w .cells)) rest →
-            Does S aValue Γ K p (suc (behindE a p)) w (suc b) (suc (sizeE a)) (bind (evalE (S .rules) g a (Γ .bindings) w b) λ v w₁ b₁. asFunction (named th rest) λ y t rest. evalE (S .rules) g t (binding y (value v) ∷ rest) w₁ b₁)
-        go (value v) rest sc bd e slot h behind fewer inside = let z : _≡_ {A = ℕ} 0 1 = cc in absurd (omega arith)
-        go (procedureBody y t) rest sc bd e slot h behind fewer inside = let z : _≡_ {A = ℕ} 0 1 = cc in absurd (omega arith)
-        go (functionBody y t) rest sc bd e slot h behind fewer inside =
-            let qa = part-E (S .code) a (Γ .scope) p _ (placed .named .1) (placed .stands) in
-            calling S aValue nd _ Γ K p (behindE a p) (h .start) _ y (h .node) w b r (sizeE a) (sizeE t) sc rest _ _ behind fits
-            (ih a Γ K p w b r (qa .0) (fits-part w (sizeE a) fits refl (omega arith)) hb)
-            (operand-is (S .code) Call (behindE a p) nd (Γ .scope) f Function (placed .named .0) (qa .1 .0)) (slot ∙ ap Some (h .is)) (h .returns) fewer inside
-            (λ v K₁ w₁ b₁ r₁ fits₁ l. ih t _ K₁ (h .start) w₁ b₁ r₁ (h .body) fits₁ (omega arith))
+        (calling S g ih expressions aValue (evalE (S .rules) g) ih Γ K p w b r hb nd f a Function n _ _ q (placed .named .1) (placed .stands) fits)
 
   next : (g : ℕ) → SimE S g → SimE S (suc g)
   unfolding evalE
@@ -150,10 +119,10 @@ module _ (S : Setup) where
   next g ih (number nd z) Γ K p w (suc b) r placed fits hb = pushes Γ K p w b r (Num z) nd (plain (Number z)) (w .feed) fits (placed .stands .0) tt refl
   next g ih (truth nd t) Γ K p w (suc b) r placed fits hb = pushes Γ K p w b r (TruthWord t) nd (plain (Truth t)) (w .feed) fits (placed .stands .0) tt refl
   next g ih (read nd) Γ K p w (suc b) r placed fits hb = read-case Γ K p w b r nd (w .feed) refl fits (placed .stands .0)
-  next g ih (name nd x) Γ K p w (suc b) r placed fits hb = name-case Γ K p w b r nd x fits placed g
+  next g ih (name nd x) Γ K p w (suc b) r placed fits hb = name-case Γ K p w b r nd x fits placed
   next g ih (operation nd o a c) Γ K p w (suc b) r placed fits hb = operation-case g ih Γ K p w b r (omega arith) nd o a c placed fits
   next g ih (functionCall nd f a) Γ K p w (suc b) r placed fits hb = functionCall-case g ih Γ K p w b r (omega arith) nd f a placed fits
-  next g ih (choice nd a c d) Γ K p w (suc b) r placed fits hb = choice-case g ih Γ K p w b r (omega arith) nd a c d placed fits
+  next g ih (choice nd a c d) Γ K p w (suc b) r placed fits hb = choosing S g ih expressions aValue (evalE (S .rules) g) ih Γ K p w b r (omega arith) nd a c d (placed .named) (placed .stands) fits
 
   pub simE : (g : ℕ) → SimE S g
   unfolding evalE

@@ -9,3 +9,6 @@ pub mod Expressions
 pub mod Declarations
 pub mod Commands
 pub mod Growth
+pub mod Metered
+pub mod Visits
+pub mod Whole

@@ -9,16 +9,21 @@ use lib.ListN.{drop}
 use Rattle.std.specs.declared.option.Option.{Option}
 use Rattle.std.specs.declared.option.Option.the-variants.{Some, None}
 use Rattle.vocabulary.specs.declared.code.Word.{Word}
+use Rattle.vocabulary.specs.declared.value.Value.{Value}
 use Rattle.vocabulary.specs.Tables.{found}
 use Rattle.language.specs.declared.name.Entry.{Entry}
 use Rattle.language.specs.declared.name.Place.{Place}
 use Rattle.language.specs.declared.name.Role.{Role}
-use Rattle.language.specs.Scope.{place, later, placeOf}
+use Rattle.language.specs.declared.name.Role.the-variants.{Value as aValue, Procedure, Function}
+use Rattle.language.specs.Scope.{place, later, placeOf, scopeInside}
 use Rattle.language.specs.Outcomes.{Denoted, Binding, Found, find}
 use Rattle.language.specs.Outcomes.Binding.{binding}
+use Rattle.language.specs.Outcomes.Denoted.{value as denotes, procedureBody, functionBody}
 use Rattle.language.specs.Outcomes.Found.{named, unnamed}
 use Rattle.machine.specs.declared.tables.Bound.{Bound}
-use Rattle.agreement.proofs.Scene.{Corresponds, Match, roleOf, weight, bodies, DenotesInside, AllInside}
+use Rattle.machine.specs.declared.tables.Bound.the-variants.{Holds}
+use Rattle.agreement.proofs.Placed.{Sort, expressions, commands}
+use Rattle.agreement.proofs.Scene.{Corresponds, Match, BodyAt, roleOf, weight, bodies, Inside, DenotesInside, AllInside}
 use Rattle.agreement.proofs.Scene.Corresponds.{nil, more}
 
 none-is-no-place : {A : Type 0} {a : A} → None ≡ Some a → ⊥
@@ -64,3 +69,54 @@ resolve prog x d r (more {sc = sc} {bs = bs} {m = m} y th b h o) e =
         (record {
           denoted = q .denoted; rest = q .rest; scope = q .scope; bound = q .bound; is = q .is; role = q .role; slot = q .slot; match = q .match;
           behind = q .behind; fewer = omega arith; inside = λ n g. q .inside n (g .1) })
+
+module _ (prog : List Word) (bs : List Binding) (m : List Bound) (d : ℕ) (f : Found) where
+  -- a name that has to denote a value, and does
+  pub record ValueAt : Type 0 where
+    pub value : Value
+    pub rest : List Binding
+    pub is : f ≡ named (denotes value) rest
+    pub slot : found m d ≡ Some (Holds value)
+    pub inside : (n : ℕ) → AllInside n bs → Inside n value
+
+  -- a name that has to denote a routine of a sort, and does
+  pub record RoutineAt {T : Type 0} (σ : Sort T) (routine : ℕ → T → Denoted) : Type 0 where
+    pub parameter : ℕ
+    pub tree : T
+    pub rest : List Binding
+    pub scope : List Entry
+    pub bound : Bound
+    pub is : f ≡ named (routine parameter tree) rest
+    pub slot : found m d ≡ Some bound
+    pub body : BodyAt σ prog tree (scopeInside parameter scope) bound
+    pub behind : Corresponds prog scope rest (drop (suc d) m)
+    pub fewer : σ .size tree + bodies rest ≤ bodies bs
+    pub inside : (n : ℕ) → AllInside n bs → AllInside n rest
+
+  pub value-at : Resolved prog bs m d aValue f → ValueAt
+  value-at q = go (q .denoted) (q .is) (q .role) (q .match) (λ n g. q .inside n g .0)
+    where
+      go : (th : Denoted) → f ≡ named th (q .rest) → roleOf th ≡ aValue → Match prog (q .scope) th (q .bound) → ((n : ℕ) → AllInside n bs → DenotesInside n th) → ValueAt
+      go (denotes v) is role match inside = record { value = v; rest = q .rest; is = is; slot = q .slot ∙ ap Some match; inside = inside }
+      go (procedureBody y t) is role match inside = let z : _≡_ {A = ℕ} 0 1 = cc in absurd (omega arith)
+      go (functionBody y t) is role match inside = let z : _≡_ {A = ℕ} 0 1 = cc in absurd (omega arith)
+
+  pub procedure-at : Resolved prog bs m d Procedure f → RoutineAt commands procedureBody
+  procedure-at q = go (q .denoted) (q .is) (q .role) (q .match) (q .fewer)
+    where
+      go : (th : Denoted) → f ≡ named th (q .rest) → roleOf th ≡ Procedure → Match prog (q .scope) th (q .bound) → weight th + bodies (q .rest) ≤ bodies bs → RoutineAt commands procedureBody
+      go (denotes v) is role match fewer = let z : _≡_ {A = ℕ} 0 1 = cc in absurd (omega arith)
+      go (functionBody y t) is role match fewer = let z : _≡_ {A = ℕ} 0 1 = cc in absurd (omega arith)
+      go (procedureBody y t) is role match fewer = record {
+          parameter = y; tree = t; rest = q .rest; scope = q .scope; bound = q .bound; is = is; slot = q .slot; body = match;
+          behind = q .behind; fewer = fewer; inside = λ n g. q .inside n g .1 }
+
+  pub function-at : Resolved prog bs m d Function f → RoutineAt expressions functionBody
+  function-at q = go (q .denoted) (q .is) (q .role) (q .match) (q .fewer)
+    where
+      go : (th : Denoted) → f ≡ named th (q .rest) → roleOf th ≡ Function → Match prog (q .scope) th (q .bound) → weight th + bodies (q .rest) ≤ bodies bs → RoutineAt expressions functionBody
+      go (denotes v) is role match fewer = let z : _≡_ {A = ℕ} 0 1 = cc in absurd (omega arith)
+      go (procedureBody y t) is role match fewer = let z : _≡_ {A = ℕ} 0 1 = cc in absurd (omega arith)
+      go (functionBody y t) is role match fewer = record {
+          parameter = y; tree = t; rest = q .rest; scope = q .scope; bound = q .bound; is = is; slot = q .slot; body = match;
+          behind = q .behind; fewer = fewer; inside = λ n g. q .inside n g .1 }

@@ -12,7 +12,7 @@ use Rattle.vocabulary.specs.declared.code.Word.{Word}
 use Rattle.vocabulary.specs.Tables.{found}
 use Rattle.language.specs.declared.name.Entry.{Entry}
 use Rattle.language.specs.declared.name.Role.{Role}
-use Rattle.language.specs.Tree.{Expression, Command, Declaration, nodeC}
+use Rattle.language.specs.Tree.{Expression, Command, Declaration, nodeC, sizeE, sizeC, sizeD}
 use Rattle.language.specs.Tree.Expression.{number, truth, read, name, operation, functionCall, choice}
 use Rattle.language.specs.Tree.Command.{assign, output, when, while, block, sequence, procedureCall}
 use Rattle.language.specs.Tree.Declaration.{constant, variable, procedure, function, pair}
@@ -30,12 +30,12 @@ abbrev pub after : List Word → ℕ → ℕ
 after [] p = p
 after (x ∷ xs) p = after xs (suc p)
 
-after-++ : (xs ys : List Word) (p : ℕ) → after (xs ++ ys) p ≡ after ys (after xs p)
+pub after-++ : (xs ys : List Word) (p : ℕ) → after (xs ++ ys) p ≡ after ys (after xs p)
 after-++ [] ys p = refl
 after-++ (x ∷ xs) ys p = after-++ xs ys (suc p)
 
 -- the code of a tree ends where `behind` says
-after-E : (t : Expression) (sc : List Entry) (p : ℕ) → after (codeE t sc p) p ≡ behindE t p
+pub after-E : (t : Expression) (sc : List Entry) (p : ℕ) → after (codeE t sc p) p ≡ behindE t p
 after-E (number nd z) sc p = refl
 after-E (truth nd t) sc p = refl
 after-E (read nd) sc p = refl
@@ -46,11 +46,8 @@ after-E (choice nd a b c) sc p =
     let q = suc (plainEnd a (behindE a p)) in
     simp (after-++, after-E a sc p, after-E b sc q, after-E c sc (suc (behindE b q)))
 
-after-plain : (t : Expression) (sc : List Entry) (p : ℕ) → after (plainCode t (codeE t sc p)) p ≡ plainEnd t (behindE t p)
-after-plain t sc p = simp (after-++, after-E t sc p)
-
 mutual
-  after-C : (t : Command) (sc : List Entry) (p : ℕ) → after (codeC t sc p) p ≡ behindC t p
+  pub after-C : (t : Command) (sc : List Entry) (p : ℕ) → after (codeC t sc p) p ≡ behindC t p
   after-C (assign nd a b) sc p = simp (after-++, after-E a sc p, after-E b sc (suc (behindE a p)))
   after-C (output nd a) sc p = simp (after-++, after-E a sc p)
   after-C (when nd a b c) sc p =
@@ -61,29 +58,40 @@ mutual
   after-C (sequence nd a b) sc p = simp (after-++, after-C a sc p, after-C b sc (behindC a p))
   after-C (procedureCall nd f a) sc p = simp (after-++, after-E a sc p)
 
-  after-D : (t : Declaration) (sc : List Entry) (p : ℕ) → after (codeD t sc p) p ≡ behindD t p
+  pub after-D : (t : Declaration) (sc : List Entry) (p : ℕ) → after (codeD t sc p) p ≡ behindD t p
   after-D (constant nd x a) sc p = simp (after-++, after-E a sc p)
   after-D (variable nd x a) sc p = simp (after-++, after-E a sc p)
   after-D (procedure nd x a y) sc p = simp (after-++, after-C a (scopeInside y sc) (suc (suc p)))
   after-D (function nd x a y) sc p = simp (after-++, after-E a (scopeInside y sc) (suc (suc p)))
   after-D (pair nd a b) sc p = simp (after-++, after-D a sc p, after-D b (scopeAfter a sc) (behindD a p))
 
+-- a sort of trees with their code: which names are in order, the code, where it ends, and how many nodes there are
+pub record Sort (T : Type 0) : Type 1 where
+  pub Named : T → List Entry → Type 0
+  pub code : T → List Entry → ℕ → List Word
+  pub behind : T → ℕ → ℕ
+  pub ends : (t : T) (sc : List Entry) (p : ℕ) → after (code t sc p) p ≡ behind t p
+  pub size : T → ℕ
+
+abbrev pub expressions : Sort Expression
+expressions = record { Named = NamedE; code = codeE; behind = behindE; ends = after-E; size = sizeE }
+
+-- expressions with the code that leaves their plain value
+abbrev pub plains : Sort Expression
+plains = record {
+    Named = NamedE; code = λ t sc p. plainCode t (codeE t sc p); behind = λ t p. plainEnd t (behindE t p);
+    ends = λ t sc p. simp (after-++, after-E t sc p); size = sizeE }
+
+abbrev pub commands : Sort Command
+commands = record { Named = NamedC; code = codeC; behind = behindC; ends = after-C; size = sizeC }
+
+abbrev pub declarations : Sort Declaration
+declarations = record { Named = NamedD; code = codeD; behind = behindD; ends = after-D; size = sizeD }
+
 -- the names of a tree are in order, and its code stands at a position
-pub record PlacedE (prog : List Word) (t : Expression) (sc : List Entry) (p : ℕ) : Type 0 where
-  pub named : NamedE t sc
-  pub stands : Stands prog p (codeE t sc p)
-
-pub record PlacedPlain (prog : List Word) (t : Expression) (sc : List Entry) (p : ℕ) : Type 0 where
-  pub named : NamedE t sc
-  pub stands : Stands prog p (plainCode t (codeE t sc p))
-
-pub record PlacedC (prog : List Word) (t : Command) (sc : List Entry) (p : ℕ) : Type 0 where
-  pub named : NamedC t sc
-  pub stands : Stands prog p (codeC t sc p)
-
-pub record PlacedD (prog : List Word) (t : Declaration) (sc : List Entry) (p : ℕ) : Type 0 where
-  pub named : NamedD t sc
-  pub stands : Stands prog p (codeD t sc p)
+pub record Placed {T : Type 0} (σ : Sort T) (prog : List Word) (t : T) (sc : List Entry) (p : ℕ) : Type 0 where
+  pub named : σ .Named t sc
+  pub stands : Stands prog p (σ .code t sc p)
 
 module _ (prog : List Word) where
   split : (xs ys : List Word) (p q : ℕ) → after xs p ≡ q → Stands prog p (xs ++ ys) → Stands prog p xs × Stands prog q ys
@@ -91,21 +99,9 @@ module _ (prog : List Word) where
   split (x ∷ xs) ys p q e s = let r = split xs ys (suc p) q e (s .1) in ((s .0, r .0), r .1)
 
   -- a part with its names, and what stands behind it
-  pub part-E : (t : Expression) (sc : List Entry) (p : ℕ) (ys : List Word) → NamedE t sc → Stands prog p (codeE t sc p ++ ys) →
-      PlacedE prog t sc p × Stands prog (behindE t p) ys
-  part-E t sc p ys n s = let r = split (codeE t sc p) ys p _ (after-E t sc p) s in (record { named = n; stands = r .0 }, r .1)
-
-  pub part-plain : (t : Expression) (sc : List Entry) (p : ℕ) (ys : List Word) → NamedE t sc → Stands prog p (plainCode t (codeE t sc p) ++ ys) →
-      PlacedPlain prog t sc p × Stands prog (plainEnd t (behindE t p)) ys
-  part-plain t sc p ys n s = let r = split (plainCode t (codeE t sc p)) ys p _ (after-plain t sc p) s in (record { named = n; stands = r .0 }, r .1)
-
-  pub part-C : (t : Command) (sc : List Entry) (p : ℕ) (ys : List Word) → NamedC t sc → Stands prog p (codeC t sc p ++ ys) →
-      PlacedC prog t sc p × Stands prog (behindC t p) ys
-  part-C t sc p ys n s = let r = split (codeC t sc p) ys p _ (after-C t sc p) s in (record { named = n; stands = r .0 }, r .1)
-
-  pub part-D : (t : Declaration) (sc : List Entry) (p : ℕ) (ys : List Word) → NamedD t sc → Stands prog p (codeD t sc p ++ ys) →
-      PlacedD prog t sc p × Stands prog (behindD t p) ys
-  part-D t sc p ys n s = let r = split (codeD t sc p) ys p _ (after-D t sc p) s in (record { named = n; stands = r .0 }, r .1)
+  pub part : {T : Type 0} (σ : Sort T) (t : T) (sc : List Entry) (p : ℕ) (ys : List Word) → σ .Named t sc → Stands prog p (σ .code t sc p ++ ys) →
+      Placed σ prog t sc p × Stands prog (σ .behind t p) ys
+  part σ t sc p ys n s = let r = split (σ .code t sc p) ys p _ (σ .ends t sc p) s in (record { named = n; stands = r .0 }, r .1)
 
   -- the operand of LOOK and CALL is the place of the name
   pub operand-is : (i : ℕ → Instruction) (p nd : ℕ) (sc : List Entry) (x : ℕ) (role : Role) (n : Names sc x role) →
@@ -124,6 +120,6 @@ stands-in l [] p e = tt
 stands-in l (x ∷ xs) p e = let q = head-is l p x xs e in (q .0, stands-in l xs (suc p) (q .1))
 
 -- in a program, the code of the tree stands at 0, and HALT behind it
-pub program-stands : (t : Command) → NamedC t [] → PlacedC (program t) t [] 0 × Is (program t) (behindC t 0) Halt (nodeC t)
+pub program-stands : (t : Command) → NamedC t [] → Placed commands (program t) t [] 0 × Is (program t) (behindC t 0) Halt (nodeC t)
 program-stands t n =
-    let q = part-C (program t) t [] 0 _ n (stands-in (program t) (program t) 0 refl) in (q .0, q .1 .0)
+    let q = part (program t) commands t [] 0 _ n (stands-in (program t) (program t) 0 refl) in (q .0, q .1 .0)

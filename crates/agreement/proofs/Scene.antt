@@ -29,26 +29,26 @@ use Rattle.machine.specs.declared.tables.Bound.{Bound}
 use Rattle.machine.specs.declared.tables.Bound.the-variants.{Holds, Body}
 use Rattle.machine.specs.State.{Dump}
 use Rattle.agreement.proofs.Steps.{Is}
-use Rattle.agreement.proofs.Placed.{PlacedE, PlacedC}
+use Rattle.agreement.proofs.Placed.{Sort, expressions, commands, Placed}
 
 abbrev pub roleOf : Denoted → Role
 roleOf (value v) = aValue
 roleOf (procedureBody y t) = Procedure
 roleOf (functionBody y t) = Function
 
--- a binding to the position of a body that is placed there, with RET behind it
-pub record BodyAt (prog : List Word) (b : Bound) (placed : ℕ → Type 0) (behind : ℕ → ℕ) : Type 0 where
+-- a binding to a position at which a body is placed, with RET behind it
+pub record BodyAt {T : Type 0} (σ : Sort T) (prog : List Word) (t : T) (sc : List Entry) (b : Bound) : Type 0 where
   pub start : ℕ
   pub node : ℕ
   pub is : b ≡ Body start
-  pub body : placed start
-  pub returns : Is prog (behind start) Ret node
+  pub placed : Placed σ prog t sc start
+  pub returns : Is prog (σ .behind t start) Ret node
 
 -- what a name denotes in the source, and what it is bound to in the machine
 abbrev pub Match : List Word → List Entry → Denoted → Bound → Type 0
 Match prog sc (value v) b = b ≡ Holds v
-Match prog sc (procedureBody y t) b = BodyAt prog b (λ p. PlacedC prog t (scopeInside y sc) p) (λ p. behindC t p)
-Match prog sc (functionBody y t) b = BodyAt prog b (λ p. PlacedE prog t (scopeInside y sc) p) (λ p. behindE t p)
+Match prog sc (procedureBody y t) b = BodyAt commands prog t (scopeInside y sc) b
+Match prog sc (functionBody y t) b = BodyAt expressions prog t (scopeInside y sc) b
 
 pub data Corresponds (prog : List Word) : List Entry → List Binding → List Bound → Type 0 where
   nil : Corresponds prog [] [] []

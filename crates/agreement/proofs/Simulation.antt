@@ -22,14 +22,14 @@ use Rattle.language.specs.declared.name.Entry.{Entry}
 use Rattle.language.specs.Tree.{Expression, Command, Declaration, sizeE, sizeC, sizeD}
 use Rattle.language.specs.Scope.{scopeAfter}
 use Rattle.language.specs.Translation.{behindE, behindC, behindD}
-use Rattle.language.specs.Outcomes.{Binding, Outcome, bind}
+use Rattle.language.specs.Outcomes.{Binding, Outcome, bind, plainly}
 use Rattle.language.specs.Outcomes.Outcome.{done, ended, cut, lost}
 use Rattle.language.specs.Meaning.{evalE, evalC, evalD}
 use Rattle.machine.specs.declared.tables.Bound.{Bound}
 use Rattle.machine.specs.State.{Config, config, State}
 use Rattle.machine.specs.State.State.{running, halted, broken}
 use Rattle.agreement.proofs.Steps.{Setup, Reach, stay, then}
-use Rattle.agreement.proofs.Placed.{PlacedE, PlacedC, PlacedD}
+use Rattle.agreement.proofs.Placed.{Sort, expressions, plains, commands, declarations, Placed}
 use Rattle.agreement.proofs.Scene.{Corresponds, Scene, Waiting, on, Inside, AllInside, bodies, Fits}
 
 -- what a kind of work leaves: at most one value more, a step to spare, and locations among the cells
@@ -132,18 +132,22 @@ module _ (S : Setup) where
   abbrev pub Declares : Scene (S .code) → Waiting → ℕ → ℕ → World → ℕ → ℕ → ℕ → List Entry → Outcome (List Binding) → Type 0
   Declares Γ K p q w b r z sc o = Post (Declared Γ K p q w b r z sc) (at Γ K p w) b (z + bodies (Γ .bindings)) o
 
-  -- the statements of the induction, at depth g
+  -- the statement of the induction, at depth g, for a sort of trees and what their work leaves
+  abbrev pub Sim : {T A : Type 0} → Sort T → Work A → (T → List Binding → World → ℕ → Outcome A) → ℕ → Type 0
+  Sim {T} σ k eval g = (t : T) (Γ : Scene (S .code)) (K : Waiting) (p : ℕ) (w : World) (b r : ℕ) →
+      Placed σ (S .code) t (Γ .scope) p → Fits (S .room) (Γ .bindings) K w r (σ .size t) → b ≤ g →
+      Does k Γ K p (σ .behind t p) w b (σ .size t) (eval t (Γ .bindings) w b)
+
   abbrev pub SimE : ℕ → Type 0
-  SimE g = (t : Expression) (Γ : Scene (S .code)) (K : Waiting) (p : ℕ) (w : World) (b r : ℕ) →
-      PlacedE (S .code) t (Γ .scope) p → Fits (S .room) (Γ .bindings) K w r (sizeE t) → b ≤ g →
-      Does aValue Γ K p (behindE t p) w b (sizeE t) (evalE (S .rules) g t (Γ .bindings) w b)
+  SimE g = Sim expressions aValue (evalE (S .rules) g) g
+
+  abbrev pub SimPlain : ℕ → Type 0
+  SimPlain g = Sim plains aPlain (λ t bs w b. plainly (evalE (S .rules) g t bs w b)) g
 
   abbrev pub SimC : ℕ → Type 0
-  SimC g = (t : Command) (Γ : Scene (S .code)) (K : Waiting) (p : ℕ) (w : World) (b r : ℕ) →
-      PlacedC (S .code) t (Γ .scope) p → Fits (S .room) (Γ .bindings) K w r (sizeC t) → b ≤ g →
-      Does aCommand Γ K p (behindC t p) w b (sizeC t) (evalC (S .rules) g t (Γ .bindings) w b)
+  SimC g = Sim commands aCommand (evalC (S .rules) g) g
 
   abbrev pub SimD : ℕ → Type 0
   SimD g = (t : Declaration) (Γ : Scene (S .code)) (K : Waiting) (p : ℕ) (w : World) (b r : ℕ) →
-      PlacedD (S .code) t (Γ .scope) p → Fits (S .room) (Γ .bindings) K w r (sizeD t) → b ≤ g →
+      Placed declarations (S .code) t (Γ .scope) p → Fits (S .room) (Γ .bindings) K w r (sizeD t) → b ≤ g →
       Declares Γ K p (behindD t p) w b r (sizeD t) (scopeAfter t (Γ .scope)) (evalD (S .rules) g t (Γ .bindings) w b)

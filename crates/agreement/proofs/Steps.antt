@@ -15,7 +15,7 @@ use Rattle.vocabulary.specs.World.{World, Rules}
 use Rattle.language.specs.Translation.{word}
 use Rattle.machine.specs.State.{Config, State}
 use Rattle.machine.specs.State.State.{running, halted, broken}
-use Rattle.machine.specs.Machine.{exec, obey, step, iterate}
+use Rattle.machine.specs.Machine.{exec, obey, step, iterate, counted, taken}
 use Rattle.agreement.specs.Agreement.{Within}
 
 -- what a run is made under: the rules, the code, and the room that the proof claims for each table
@@ -50,6 +50,29 @@ module _ (R : Rules) (prog : List Word) where
   pub broken-stays : (n : ℕ) → iterate R prog n broken ≡ broken
   broken-stays zero = refl
   broken-stays (suc n) = broken-stays n
+
+  -- no more steps are carried out than are granted, and none by a machine that has ended
+  counted-once : (x : State) → counted x ≤ 1
+  counted-once (running c) = omega arith
+  counted-once (halted e nd w) = omega arith
+  counted-once broken = omega arith
+
+  taken-within : (n : ℕ) (x : State) → taken R prog n x ≤ n
+  unfolding taken
+  taken-within zero x = omega arith
+  taken-within (suc n) x = omega (arith, counted-once x, taken-within n (step R prog x))
+
+  taken-ended : (n : ℕ) (e : End) (nd : ℕ) (w : World) → taken R prog n (halted e nd w) ≡ 0
+  unfolding taken
+  taken-ended zero e nd w = refl
+  taken-ended (suc n) e nd w = omega (arith, taken-ended n e nd w)
+
+  -- a machine that has ended within m steps carries out no more than m, however many are granted
+  pub taken-until-ended : (m : ℕ) (x : State) (e : End) (nd : ℕ) (w : World) → iterate R prog m x ≡ halted e nd w → (n : ℕ) → taken R prog n x ≤ m
+  unfolding taken
+  taken-until-ended zero x e nd w h n = subst (λ y. taken R prog n y ≤ 0) (sym h) (omega (arith, taken-ended n e nd w))
+  taken-until-ended (suc m) x e nd w h zero = omega arith
+  taken-until-ended (suc m) x e nd w h (suc n) = omega (arith, counted-once x, taken-until-ended m (step R prog x) e nd w h n)
 
 module _ (S : Setup) where
   pub record Reach (x : State) (s : ℕ) (y : State) : Type 0 where

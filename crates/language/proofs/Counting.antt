@@ -2,9 +2,9 @@
 -- the nodes below r, so the size at r is the number of nodes.
 use mathlib.Core.Path.{_≡_, refl, sym, ap, subst, _∙_}
 use mathlib.Core.List.{List, [], _∷_, _++_}
-use mathlib.Core.Bool.{Bool, true, false, cond}
+use mathlib.Core.Bool.{true}
 use mathlib.Core.Logic.{⊎-elim}
-use Prim.Native.Nat.{ℕ, zero, suc, _+_, _*_, _-_, _≤_, _<_}
+use Prim.Native.Nat.{ℕ, zero, suc, _+_, _*_, _-_, _<_}
 use native.Mathlib.Nat.{add-mul, zero-mul, one-mul}
 use native.Mathlib.Omega.{arith}
 use Rattle.std.proofs.shelf.Tests.{cases-eq, eq-eqb, ne-eqb, and-parts, ltb-true}
@@ -46,13 +46,13 @@ sumTo-hit zero f j l = absurd (omega arith)
 sumTo-hit (suc m) f j l =
     ⊎-elim
     (λ (e : j ≡ m).
-      let a : sumTo m (λ k. hit j k * f k) ≡ 0 = sumTo-none m (λ k. hit j k * f k) (λ k u. hit-other f j k (λ q. omega arith)) in
-      let b : hit j m * f m ≡ f j = subst (λ (i : ℕ). hit j i * f i ≡ f j) e (hit-same f j) in
-      omega arith)
+    let a : sumTo m (λ k. hit j k * f k) ≡ 0 = sumTo-none m (λ k. hit j k * f k) (λ k u. hit-other f j k (λ q. omega arith)) in
+    let b : hit j m * f m ≡ f j = subst (λ (i : ℕ). hit j i * f i ≡ f j) e (hit-same f j) in
+    omega arith)
     (λ (e : j ≡ m → ⊥).
-      let a : sumTo m (λ k. hit j k * f k) ≡ f j = sumTo-hit m f j (omega arith) in
-      let b : hit j m * f m ≡ 0 = hit-other f j m e in
-      omega arith)
+    let a : sumTo m (λ k. hit j k * f k) ≡ f j = sumTo-hit m f j (omega arith) in
+    let b : hit j m * f m ≡ 0 = hit-other f j m e in
+    omega arith)
     (cases-eq j m)
 
 weigh : (m : ℕ) (f : ℕ → ℕ) (cs : List ChildField) → lower m cs ≡ true → sumOf f cs ≡ sumTo m (λ k. times k cs * f k)
@@ -63,7 +63,7 @@ weigh m f (x ∷ cs) h =
     let a : sumTo m (λ k. hit j k * f k) ≡ f j = sumTo-hit m f j (ltb-true j m (p .0)) in
     let b : sumOf f cs ≡ sumTo m (λ k. times k cs * f k) = weigh m f cs (p .1) in
     let c : sumTo m (λ k. (hit j k + times k cs) * f k) ≡ sumTo m (λ k. hit j k * f k + times k cs * f k) =
-      sumTo-same m (λ k. (hit j k + times k cs) * f k) (λ k. hit j k * f k + times k cs * f k) (λ k l. add-mul (hit j k) (times k cs) (f k)) in
+    sumTo-same m (λ k. (hit j k + times k cs) * f k) (λ k. hit j k * f k + times k cs * f k) (λ k l. add-mul (hit j k) (times k cs) (f k)) in
     let d : sumTo m (λ k. hit j k * f k + times k cs * f k) ≡ sumTo m (λ k. hit j k * f k) + sumTo m (λ k. times k cs * f k) = sumTo-add m (λ k. hit j k * f k) (λ k. times k cs * f k) in
     omega arith
 

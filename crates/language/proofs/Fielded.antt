@@ -2,8 +2,7 @@
 use mathlib.Core.Path.{_≡_, refl, sym, ap, _∙_}
 use mathlib.Core.Bool.{Bool, true, false, _&&_}
 use mathlib.Core.List.{List, [], _∷_, _++_}
-use mathlib.Core.Logic.{⊎-elim}
-use Prim.Native.Nat.{ℕ, zero, suc, _+_, _≤_, _<_}
+use Prim.Native.Nat.{ℕ, zero, suc, _+_, _≤_}
 use native.Mathlib.Omega.{arith}
 use native.Mathlib.Numerals.{add-one}
 use lib.Dec.{ltb}
@@ -66,7 +65,7 @@ pub lower-++ : (m : ℕ) (xs ys : List ChildField) → lower m (xs ++ ys) ≡ (l
 lower-++ m = all-++ (λ k. ltb (k .number) m) (lower m) refl (λ _ _. refl)
 
 pub lower-fields : (m : ℕ) (d : Node) (f : Fields) → fieldsOf (d .kind) ≡ Some f → lower m (children d) ≡ true
-  → (lower m (childIn (f .a) (d .a)) ≡ true) × (lower m (childIn (f .b) (d .b)) ≡ true) × (lower m (childIn (f .c) (d .c)) ≡ true)
+    → (lower m (childIn (f .a) (d .a)) ≡ true) × (lower m (childIn (f .b) (d .b)) ≡ true) × (lower m (childIn (f .c) (d .c)) ≡ true)
 lower-fields m d f e h =
     let p = and-parts _ _ (sym (all-fields (λ k. ltb (k .number) m) (lower m) refl (λ _ _. refl) d f e) ∙ h) in
     let q = and-parts _ _ (p .0) in

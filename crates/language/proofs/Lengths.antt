@@ -1,11 +1,11 @@
 -- How long code is: with its DEREF an expression has at most 3 words a node, and so have commands and declarations.
-use mathlib.Core.List.{List, [], _∷_, _++_}
+use mathlib.Core.List.{List, []}
 use Prim.Native.Nat.{ℕ, suc, _+_, _*_, _≤_}
 use native.Mathlib.Omega.{arith}
 use lib.ListN.{length, length-append}
 use Rattle.language.specs.declared.name.Entry.{Entry}
 use Rattle.language.specs.Scope.{scopeAfter, scopeInside}
-use Rattle.language.specs.Translation.{codeE, codeC, codeD, program, behindE, behindC, behindD, plainEnd}
+use Rattle.language.specs.Translation.{codeE, codeC, codeD, program, behindE, behindC, behindD}
 use Rattle.language.specs.Tree.{Expression, Command, Declaration, sizeE, sizeC, sizeD}
 use Rattle.language.specs.Tree.Expression.{number, truth, read, name, operation, functionCall, choice}
 use Rattle.language.specs.Tree.Command.{assign, output, when, while, block, sequence, procedureCall}

@@ -1,11 +1,12 @@
 pub mod ByKind
 pub mod Trees
 pub mod Fielded
+pub mod Verdicts
 pub mod Upward
 pub mod Filling
 pub mod Shape
 pub mod Counting
 pub mod Sizes
 pub mod Lengths
-pub mod Named
+pub mod Naming
 pub mod Accepted

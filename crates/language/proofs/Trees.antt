@@ -1,7 +1,7 @@
 -- The tree of a node, from the trees of its children. Depths that are large enough give one tree.
-use mathlib.Core.Path.{_≡_, refl, sym, ap, subst, _∙_}
+use mathlib.Core.Path.{_≡_, refl}
 use mathlib.Core.List.{List}
-use Prim.Native.Nat.{ℕ, zero, suc, _≤_, _<_}
+use Prim.Native.Nat.{ℕ, zero, suc, _<_}
 use native.Mathlib.Omega.{arith}
 use lib.ListN.{length}
 use Rattle.vocabulary.specs.declared.node.Node.{Node}
@@ -25,7 +25,7 @@ module _ (nodes : List Node) where
   same-E r s n (choiceF a b c) h e = let p = e a (h .0 .0) (h .0 .1) in let q = e b (h .1 .0) (h .1 .1) in let u = e c (h .2 .0) (h .2 .1) in cc
 
   module _ (r r′ : ℕ → Expression) (s s′ : ℕ → Command) (t t′ : ℕ → Declaration) (n : ℕ)
-           (e : (a : ℕ) → a < n → IsE nodes a → r a ≡ r′ a) (c : (a : ℕ) → a < n → IsC nodes a → s a ≡ s′ a) (d : (a : ℕ) → a < n → IsD nodes a → t a ≡ t′ a) where
+      (e : (a : ℕ) → a < n → IsE nodes a → r a ≡ r′ a) (c : (a : ℕ) → a < n → IsC nodes a → s a ≡ s′ a) (d : (a : ℕ) → a < n → IsD nodes a → t a ≡ t′ a) where
     same-C : (F : FormC) → SoundC nodes n F → growC r s t n F ≡ growC r′ s′ t′ n F
     same-C (assignF x y) h = let p = e x (h .0 .0) (h .0 .1) in let q = e y (h .1 .0) (h .1 .1) in cc
     same-C (outputF x) h = let p = e x (h .0) (h .1) in cc
@@ -53,6 +53,7 @@ module _ (nodes : List Node) (sound : Sound nodes) where
 
   mutual
     unfolding grownC grownD
+
     depth-C : (f k n : ℕ) → n < f → n < k → n < length nodes → IsC nodes n → grownC f nodes n ≡ grownC k nodes n
     depth-C zero k n p q l i = absurd (omega arith)
     depth-C (suc f) zero n p q l i = absurd (omega arith)

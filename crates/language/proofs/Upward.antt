@@ -1,34 +1,16 @@
 -- The first refusal of a walk upward, and what it means that there is none.
 use mathlib.Core.Path.{_≡_, refl, sym, ap, subst, _∙_}
-use mathlib.Core.Bool.{Bool, true, false}
-use mathlib.Core.List.{List}
 use mathlib.Core.Logic.{⊎-elim}
 use Prim.Native.Nat.{ℕ, zero, suc, _+_, _-_, _≤_, _<_}
 use native.Mathlib.Omega.{arith}
 use native.Mathlib.Numerals.{add-one}
-use Rattle.std.specs.declared.result.Result.{Result}
 use Rattle.std.specs.declared.result.Result.the-variants.{Ok, Err}
 use Rattle.std.specs.Results.{andOther}
 use Rattle.std.proofs.shelf.Tests.{cases-eq}
-use Rattle.vocabulary.specs.declared.refusal.Cause.{Cause}
 use Rattle.vocabulary.specs.declared.refusal.Refusal.{Refusal}
-use Rattle.vocabulary.specs.Refusals.{Verdict, refusal, unless}
+use Rattle.vocabulary.specs.Refusals.{Verdict}
 use Rattle.language.specs.Verdicts.{upward}
-
--- a verdict that accepts is the verdict on two things
-pub both-ok : (x y : Verdict) → andOther x y ≡ Ok tt → (x ≡ Ok tt) × (y ≡ Ok tt)
-both-ok (Ok u) y e = (refl, e)
-both-ok (Err r) y e = let z : _≡_ {A = ℕ} 0 1 = cc in absurd (omega arith)
-
-pub ok-both : (x y : Verdict) → x ≡ Ok tt → y ≡ Ok tt → andOther x y ≡ Ok tt
-ok-both x y p q = rw p q
-
-pub unless-ok : (b : Bool) (c : Cause) (n : ℕ) → unless b c n ≡ Ok tt → b ≡ true
-unless-ok true c n e = refl
-unless-ok false c n e = let z : _≡_ {A = ℕ} 0 1 = cc in absurd (omega arith)
-
-pub ok-unless : (b : Bool) (c : Cause) (n : ℕ) → b ≡ true → unless b c n ≡ Ok tt
-ok-unless b c n e = rw e
+use Rattle.language.proofs.Verdicts.{both-accept, accept-both}
 
 module _ (v : ℕ → Verdict) where
   one-more : (j m k : ℕ) → j ≡ m + 1 → upward v j k ≡ andOther (v k) (upward v m (k + 1))
@@ -51,10 +33,10 @@ module _ (v : ℕ → Verdict) where
   unfolding upward
   all-passed zero k n h l u = absurd (omega arith)
   all-passed (suc m) k n h l u =
-      let p = both-ok (v k) (upward v m (k + 1)) h in
+      let p = both-accept (v k) (upward v m (k + 1)) h in
       ⊎-elim (λ (q : k ≡ n). subst (λ (i : ℕ). v i ≡ Ok tt) q (p .0)) (λ (q : k ≡ n → ⊥). all-passed m (k + 1) n (p .1) (omega arith) (omega arith)) (cases-eq k n)
 
   pub passed-all : (m k : ℕ) → ((n : ℕ) → k ≤ n → n < k + m → v n ≡ Ok tt) → upward v m k ≡ Ok tt
   unfolding upward
   passed-all zero k h = refl
-  passed-all (suc m) k h = ok-both (v k) (upward v m (k + 1)) (h k (omega arith) (omega arith)) (passed-all m (k + 1) (λ n l u. h n (omega arith) (omega arith)))
+  passed-all (suc m) k h = accept-both (h k (omega arith) (omega arith)) (passed-all m (k + 1) (λ n l u. h n (omega arith) (omega arith)))

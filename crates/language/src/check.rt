@@ -21,7 +21,10 @@ fn refuse(cause: Cause, n: usize) -> Result<(), Refusal>
     requires { ⌜ n < 512 ⌝ }
     ensures { λ r. ⌜ r ≡ Err (refusal cause n) ⌝ }
 {
-    Err(Refusal { cause, node: n as u16 })
+    Err(Refusal {
+        cause,
+        node: n as u16,
+    })
 }
 
 // The kind of a node, and 0 past the last.
@@ -29,7 +32,11 @@ fn kind_at(nodes: &[Node], n: u16) -> u8
     ensures { λ r. ⌜ r ≡ at (now (nodes .entry)) n .kind ⌝ }
 {
     let place = usize::from(n);
-    if place < nodes.len() { nodes[place].kind } else { 0 }
+    if place < nodes.len() {
+        nodes[place].kind
+    } else {
+        0
+    }
 }
 
 fn keeps_tag(node: Node) -> bool
@@ -46,7 +53,9 @@ fn keeps_fields(node: Node) -> bool
 {
     match fields_of(node.kind) {
         None => false,
-        Some(fields) => fields.a.admits(node.a) && fields.b.admits(node.b) && fields.c.admits(node.c),
+        Some(fields) => fields.a.admits(node.a)
+            && fields.b.admits(node.b)
+            && fields.c.admits(node.c),
     }
 }
 
@@ -60,12 +69,14 @@ fn field_lower(rule: Rule, value: u16, n: usize) -> bool
     }
 }
 
-fn has_lower_children(node: Node, n: usize) -> bool
+fn children_lower(node: Node, n: usize) -> bool
     ensures { λ r. ⌜ r ≡ lower n (children node) ⌝ }
 {
     match fields_of(node.kind) {
         None => true,
-        Some(fields) => field_lower(fields.a, node.a, n) && field_lower(fields.b, node.b, n) && field_lower(fields.c, node.c, n),
+        Some(fields) => field_lower(fields.a, node.a, n)
+            && field_lower(fields.b, node.b, n)
+            && field_lower(fields.c, node.c, n),
     }
 }
 
@@ -79,12 +90,14 @@ fn field_fits(nodes: &[Node], rule: Rule, value: u16) -> bool
     }
 }
 
-fn has_fitting_children(nodes: &[Node], node: Node) -> bool
+fn children_fit(nodes: &[Node], node: Node) -> bool
     ensures { λ r. ⌜ r ≡ fitting (now (nodes .entry)) (children node) ⌝ }
 {
     match fields_of(node.kind) {
         None => true,
-        Some(fields) => field_fits(nodes, fields.a, node.a) && field_fits(nodes, fields.b, node.b) && field_fits(nodes, fields.c, node.c),
+        Some(fields) => field_fits(nodes, fields.a, node.a)
+            && field_fits(nodes, fields.b, node.b)
+            && field_fits(nodes, fields.c, node.c),
     }
 }
 
@@ -98,8 +111,8 @@ fn check_node(nodes: &[Node], n: usize) -> Result<(), Refusal>
     match node.kind {
         1..=7 | 10..=14 | 20..=26 if !keeps_tag(node) => refuse(Cause::FieldRule, n),
         1..=7 | 10..=14 | 20..=26 if !keeps_fields(node) => refuse(Cause::FieldRule, n),
-        1..=7 | 10..=14 | 20..=26 if !has_lower_children(node, n) => refuse(Cause::ChildNotLower, n),
-        1..=7 | 10..=14 | 20..=26 if !has_fitting_children(nodes, node) => refuse(Cause::ChildSort, n),
+        1..=7 | 10..=14 | 20..=26 if !children_lower(node, n) => refuse(Cause::ChildNotLower, n),
+        1..=7 | 10..=14 | 20..=26 if !children_fit(nodes, node) => refuse(Cause::ChildSort, n),
         1..=7 | 10..=14 | 20..=26 => Ok(()),
         _ => refuse(Cause::FieldRule, n),
     }

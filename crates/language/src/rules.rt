@@ -1,5 +1,5 @@
 ghost use mathlib.Core.Path.{_≡_};
-ghost use Rattle.language.specs.Fields.{isOf, fieldsOf, admits};
+ghost use Rattle.language.specs.Fields.{isOf, row as rowOf, fieldsOf, admits};
 use crate::kind::Fields;
 use crate::kind::Rule;
 use crate::kind::Sort;
@@ -15,6 +15,12 @@ pub fn is_of(sort: Sort, kind: u8) -> bool
     }
 }
 
+fn row(tag: Rule, a: Rule, b: Rule, c: Rule) -> Option<Fields>
+    ensures { λ r. ⌜ r ≡ rowOf tag a b c ⌝ }
+{
+    Some(Fields { tag, a, b, c })
+}
+
 // The rules of a kind, if the kind is known.
 pub fn fields_of(kind: u8) -> Option<Fields>
     ensures { λ r. ⌜ r ≡ fieldsOf kind ⌝ }
@@ -27,26 +33,26 @@ pub fn fields_of(kind: u8) -> Option<Fields>
     let expression = Rule::Child(Sort::Expression);
     match kind {
         // assign, output, if, while, block, sequence, procedure call
-        1 => Some(Fields { tag: none, a: expression, b: expression, c: none }),
-        2 => Some(Fields { tag: none, a: expression, b: none, c: none }),
-        3 => Some(Fields { tag: none, a: expression, b: command, c: command }),
-        4 => Some(Fields { tag: none, a: expression, b: command, c: none }),
-        5 => Some(Fields { tag: none, a: declaration, b: command, c: none }),
-        6 => Some(Fields { tag: none, a: command, b: command, c: none }),
-        7 => Some(Fields { tag: name, a: expression, b: none, c: none }),
+        1 => row(none, expression, expression, none),
+        2 => row(none, expression, none, none),
+        3 => row(none, expression, command, command),
+        4 => row(none, expression, command, none),
+        5 => row(none, declaration, command, none),
+        6 => row(none, command, command, none),
+        7 => row(name, expression, none, none),
         // constant and variable, procedure, function, pair
-        10 | 11 => Some(Fields { tag: name, a: expression, b: none, c: none }),
-        12 => Some(Fields { tag: name, a: command, b: none, c: name }),
-        13 => Some(Fields { tag: name, a: expression, b: none, c: name }),
-        14 => Some(Fields { tag: none, a: declaration, b: declaration, c: none }),
+        10 | 11 => row(name, expression, none, none),
+        12 => row(name, command, none, name),
+        13 => row(name, expression, none, name),
+        14 => row(none, declaration, declaration, none),
         // number, truth, read, name, operation, function call, choice
-        20 => Some(Fields { tag: none, a: none, b: half, c: half }),
-        21 => Some(Fields { tag: Rule::Truth, a: none, b: none, c: none }),
-        22 => Some(Fields { tag: none, a: none, b: none, c: none }),
-        23 => Some(Fields { tag: name, a: none, b: none, c: none }),
-        24 => Some(Fields { tag: Rule::Operator, a: expression, b: expression, c: none }),
-        25 => Some(Fields { tag: name, a: expression, b: none, c: none }),
-        26 => Some(Fields { tag: none, a: expression, b: expression, c: expression }),
+        20 => row(none, none, half, half),
+        21 => row(Rule::Truth, none, none, none),
+        22 => row(none, none, none, none),
+        23 => row(name, none, none, none),
+        24 => row(Rule::Operator, expression, expression, none),
+        25 => row(name, expression, none, none),
+        26 => row(none, expression, expression, expression),
         _ => None,
     }
 }

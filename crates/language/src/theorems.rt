@@ -16,18 +16,15 @@ ghost use Rattle.language.specs.WellFormed.{WellFormed};
 pub fn accepts_the_well_formed()
     ensures only { λ _. ⌜ ((table : List ℕ) → tableVerdict table ≡ Ok tt → WellFormed table) ⌝ }
     ensures every { λ _. ⌜ ((table : List ℕ) → WellFormed table → tableVerdict table ≡ Ok tt) ⌝ }
-{
-}
+{}
 
 // Nodes of accepted shape can be translated, and the tree of their root has them all.
 pub fn one_tree_of_all_nodes()
     ensures sound { λ _. ⌜ ((nodes : List Node) → shapeVerdict nodes ≡ Ok tt → Sound nodes) ⌝ }
     ensures size { λ _. ⌜ ((nodes : List Node) → shapeVerdict nodes ≡ Ok tt → sizeC (treeOf nodes) ≡ length nodes) ⌝ }
-{
-}
+{}
 
 // Code has at most 3 words a node, and the HALT.
 pub fn three_words_a_node()
     ensures { λ _. ⌜ ((t : Command) → length (program t) ≤ 3 * sizeC t + 1) ⌝ }
-{
-}
+{}

@@ -172,23 +172,28 @@ entry-some t es e (Some x) q l ne f =
     let z : suc (e - 1) ≡ e = omega arith in
     subst (λ n. Opened t n (Some x)) z (opened t (e - 1) x l (f ∙ ap (λ ys. found ys (e - 1)) q))
 
-pub find-none : (t : List Entry) (e d : ℕ) → Opened t e None → Found t e d None
-find-none t e d o = ap (λ m. found m d) o
+pub outer-at : (t : List Entry) (e : ℕ) (x : Entry) → Opened t e (Some x) → chain t (x .below) ≡ drop 1 (chain t e)
+outer-at t e x o = sym (ap (drop 1) (o .0))
 
-pub find-here : (t : List Entry) (e d : ℕ) (x : Entry) → d ≡ 0 → Opened t e (Some x) → Found t e d (Some x)
-find-here t e d x z o =
-    let a = o .0 in
-    let f : Found t e 0 (Some x) = (ap (λ m. found m 0) a, ap (drop 1) a, o .1) in
-    subst (λ n. Found t e n (Some x)) (sym z) f
+pub outer-none : (t : List Entry) (e : ℕ) → Opened t e None → chain t 0 ≡ drop 1 (chain t e)
+outer-none t e o = chain-none t ∙ sym (ap (drop 1) o)
 
-pub find-more : (t : List Entry) (e d : ℕ) (x : Entry) (r : Option Entry) → (d ≡ 0 → ⊥) → Opened t e (Some x) → Found t (x .below) (d - 1) r → Found t e d r
-find-more t e d x None ne o f =
-    let z : suc (d - 1) ≡ d = omega arith in
-    subst (λ n. Found t e n None) z (ap (λ m. found m (suc (d - 1))) (o .0) ∙ f)
-find-more t e d x (Some y) ne o f =
-    let z : suc (d - 1) ≡ d = omega arith in
-    let g : Found t e (suc (d - 1)) (Some y) = (ap (λ m. found m (suc (d - 1))) (o .0) ∙ f .0, ap (drop (suc (suc (d - 1)))) (o .0) ∙ f .1, f .2) in
-    subst (λ n. Found t e n (Some y)) z g
+found-beyond : {X : Type 0} (xs : List X) (d : ℕ) → [] ≡ drop d xs → found xs d ≡ None
+found-beyond [] d h = refl
+found-beyond (x ∷ xs) zero h = let z : _≡_ {A = ℕ} 0 1 = cc in absurd (omega arith)
+found-beyond (x ∷ xs) (suc d) h = found-beyond xs d h
+
+found-behind : {X : Type 0} (xs ys : List X) (y : X) (d : ℕ) → y ∷ ys ≡ drop d xs → (found xs d ≡ Some y) × (drop (suc d) xs ≡ ys)
+found-behind [] ys y zero h = let z : _≡_ {A = ℕ} 0 1 = cc in absurd (omega arith)
+found-behind [] ys y (suc d) h = let z : _≡_ {A = ℕ} 0 1 = cc in absurd (omega arith)
+found-behind (x ∷ xs) ys y zero h = (cc, cc)
+found-behind (x ∷ xs) ys y (suc d) h = found-behind xs ys y d h
+
+pub find-at : (t : List Entry) (e d r : ℕ) (x : Option Entry) → chain t r ≡ drop d (chain t e) → Opened t r x → Found t e d x
+find-at t e d r None h o = found-beyond (chain t e) d (sym o ∙ h)
+find-at t e d r (Some x) h o =
+    let f = found-behind (chain t e) (chain t (x .below)) (x .what) d (sym (o .0) ∙ h) in
+    (f .0, f .1, o .1)
 
 -- a new binding, the k-th
 pub record Grown (t u : List Entry) (fs : List Frame) (c : Entry) (k : ℕ) : Type 0 where

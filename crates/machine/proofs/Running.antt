@@ -33,11 +33,6 @@ module _ (R : Rules) (code : List Word) where
   taken-none (suc n) (halted e k w) h = let i = taken-none n (halted e k w) h in omega arith
   taken-none (suc n) broken h = let i = taken-none n broken h in omega arith
 
-  pub left-all : (n : ℕ) (a : State) → Left R code n 0 a a
-  left-all n a =
-      let z : n - 0 ≡ n = omega arith in
-      record { comes = ap (λ k. iterate R code k a) z; counts = (let t = ap (λ k. taken R code k a) z in omega arith) }
-
   pub left-less : (n d : ℕ) (a b b′ : State) → d < n → counted b ≡ 1 → Left R code n d a b → b′ ≡ step R code b → Left R code n (d + 1) a b′
   unfolding taken
   left-less n d a b b′ h o l s =

@@ -21,9 +21,10 @@ use Rattle.machine.specs.State.{Ports, State}
 use Rattle.sequencer.specs.declared.report.Report.{Report}
 use Rattle.sequencer.specs.declared.state.Sequencer.{Sequencer}
 use Rattle.language.specs.Verdicts.{tableVerdict}
+use Rattle.sheet.specs.Faithful.{programOf}
 use Rattle.sheet.specs.Layout.{Program}
 use Rattle.sheet.specs.Sheets.{openVerdict, tablePart}
-use Rattle.sequencer.specs.Model.{Model, model, begun, programOf, codeOf}
+use Rattle.sequencer.specs.Model.{Model, model, begun, codeOf}
 use Rattle.sequencer.specs.Reports.{reportOf}
 
 -- accepted, the program is replaced and a take of it begins; refused, nothing changes

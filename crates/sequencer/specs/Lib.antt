@@ -1,4 +1,5 @@
 pub mod Reports
 pub mod Model
+pub mod Accepts
 pub mod Calls
 pub mod Rewinding

@@ -7,9 +7,6 @@ use Rattle.std.specs.Options.{mapped}
 use Rattle.vocabulary.specs.declared.code.Word.{Word}
 use Rattle.vocabulary.specs.declared.node.Node.{Node}
 use Rattle.vocabulary.specs.Tables.{front}
-use Rattle.language.specs.Reading.{treeOf}
-use Rattle.language.specs.Table.{nodesOf}
-use Rattle.language.specs.Translation.{program as translated}
 use Rattle.machine.specs.declared.tables.Status.{Status}
 use Rattle.machine.specs.declared.tables.Status.the-variants.{Running}
 use Rattle.machine.specs.Machine.{blank}
@@ -42,10 +39,6 @@ fresh = record { program = None; status = Running; core = blank; granted = 0; st
 -- the beginning of a take of a program
 abbrev pub begun : Program → Model
 begun p = record { program = Some p; status = Running; core = blank; granted = 0; steps = 0 }
-
--- the program that a table holds
-abbrev pub programOf : List ℕ → Program
-programOf table = record { nodes = nodesOf table; code = translated (treeOf (nodesOf table)) }
 
 -- the nodes and the code of the program, if there is one
 abbrev pub nodesIn : Option Program → List Node

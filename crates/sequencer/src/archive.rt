@@ -1,7 +1,8 @@
 ghost use mathlib.Core.Path.{_≡_};
-ghost use Rattle.sheet.specs.Writing.{startAnswer, startMemory, finishAnswer, finishMemory};
+ghost use Rattle.sheet.specs.Writing.{startAnswer, startMemory, finishAnswer, finishMemory, archiveAnswer, archiveMemory};
 ghost use Rattle.sequencer.specs.Model.{model};
 use crate::state::Sequencer;
+use sheet::archive::write_sheet;
 use sheet::half::HalfSheet;
 use sheet::half::finish as finish_sheet;
 use sheet::half::start as start_sheet;
@@ -28,6 +29,17 @@ impl Sequencer {
         match &self.program {
             Some(program) => finish_sheet(program.nodes(), program.code.text(), memory, half),
             None => Err((Refusal { cause: Cause::NoProgram, node: 0 }, half)),
+        }
+    }
+
+    // Start and finish in one: writes the program's sheet, and answers its length.
+    pub fn archive(&self, memory: &mut [u8]) -> Result<usize, Refusal>
+        ensures answer { λ r. ⌜ r ≡ archiveAnswer (model (now (self .entry)) .program) (now (memory .entry)) ⌝ }
+        ensures memory { λ _. ⌜ now (memory .exit) ≡ archiveMemory (model (now (self .entry)) .program) (now (memory .entry)) ⌝ }
+    {
+        match &self.program {
+            Some(program) => write_sheet(program.nodes(), program.code.text(), memory),
+            None => Err(Refusal { cause: Cause::NoProgram, node: 0 }),
         }
     }
 }

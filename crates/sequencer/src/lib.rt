@@ -2,6 +2,7 @@
 mod accept;
 mod archive;
 mod begin;
+mod load;
 pub mod program;
 pub mod report;
 mod rewind;

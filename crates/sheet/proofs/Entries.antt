@@ -69,9 +69,9 @@ module _ {X : Type 0} (bytes : X → List ℕ) (eight : (x : X) → length (byte
       ap (λ (n : ℕ). take 8 (drop n (bytes x ++ encoded bytes xs))) e ∙ (ap (take 8) (drop-append-add (bytes x) (encoded bytes xs) (8 * i)) ∙ encoded-part xs i d (omega arith))
 
   pub match-step : (part W : List ℕ) (xs : List X) (i : ℕ) (d : X) → i < length xs → W ≡ bytes (getD xs i d)
-      → sameBytes (take (8 * i + 8 - 8 * i) (drop (8 * i) part)) W ≡ true → take (8 * i) part ≡ encoded bytes (take i xs) → take (8 * (i + 1)) part ≡ encoded bytes (take (i + 1) xs)
+      → true ≡ sameBytes (take (8 * i + 8 - 8 * i) (drop (8 * i) part)) W → take (8 * i) part ≡ encoded bytes (take i xs) → take (8 * (i + 1)) part ≡ encoded bytes (take (i + 1) xs)
   match-step part W xs i d h w s e =
-      let a : take (8 * i + 8 - 8 * i) (drop (8 * i) part) ≡ W = sameBytes-decides (take (8 * i + 8 - 8 * i) (drop (8 * i) part)) W .0 s in
+      let a : take (8 * i + 8 - 8 * i) (drop (8 * i) part) ≡ W = sameBytes-decides (take (8 * i + 8 - 8 * i) (drop (8 * i) part)) W .0 (sym s) in
       let b : take (8 * (i + 1)) part ≡ take (8 * i) part ++ take (8 * i + 8 - 8 * i) (drop (8 * i) part) =
           ap (λ (n : ℕ). take n part) {x = 8 * (i + 1)} {y = 8 * i + (8 * i + 8 - 8 * i)} (omega arith) ∙ take-add (8 * i) (8 * i + 8 - 8 * i) part in
       let f = encoded-more bytes xs i d h in
@@ -85,12 +85,12 @@ module _ {X : Type 0} (bytes : X → List ℕ) (eight : (x : X) → length (byte
       sym (sameBytes-decides part (encoded bytes xs) .1 f)
 
   pub match-not : (part W : List ℕ) (xs : List X) (i : ℕ) (d : X) → i < length xs → W ≡ bytes (getD xs i d)
-      → sameBytes (take (8 * i + 8 - 8 * i) (drop (8 * i) part)) W ≡ false → false ≡ sameBytes part (encoded bytes xs)
+      → false ≡ sameBytes (take (8 * i + 8 - 8 * i) (drop (8 * i) part)) W → false ≡ sameBytes part (encoded bytes xs)
   match-not part W xs i d h w s = apart part (encoded bytes xs) (λ p.
       let n : 8 * i + 8 - 8 * i ≡ 8 = omega arith in
       let q = encoded-part xs i d h in
       let e : take (8 * i + 8 - 8 * i) (drop (8 * i) part) ≡ W = cc in
-      both-ways (sameBytes (take (8 * i + 8 - 8 * i) (drop (8 * i) part)) W) s (sameBytes-decides (take (8 * i + 8 - 8 * i) (drop (8 * i) part)) W .1 e))
+      both-ways (sameBytes (take (8 * i + 8 - 8 * i) (drop (8 * i) part)) W) (sym s) (sameBytes-decides (take (8 * i + 8 - 8 * i) (drop (8 * i) part)) W .1 e))
 
   pub match-length : (part : List ℕ) (xs : List X) → (length part ≡ 8 * length xs → ⊥) → false ≡ sameBytes part (encoded bytes xs)
   match-length part xs f = apart part (encoded bytes xs) (λ p. f (ap length p ∙ encoded-length xs))

@@ -2,3 +2,4 @@ pub mod Layout
 pub mod Sheets
 pub mod Writing
 pub mod Opening
+pub mod Faithful

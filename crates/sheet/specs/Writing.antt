@@ -39,3 +39,12 @@ finishAnswer (Some p) half memory = decided (finishVerdict (Some p) half memory)
 abbrev pub finishMemory : Option Program → HalfSheet → List ℕ → List ℕ
 finishMemory None half memory = memory
 finishMemory (Some p) half memory = decided (finishVerdict (Some p) half memory) (sheetOf p ++ drop (sizeOf p) memory) (λ e. memory)
+
+-- a start and a finish in one: the finished sheet where there is room for it, and else nothing
+abbrev pub archiveAnswer : Option Program → List ℕ → Result ℕ Refusal
+archiveAnswer None memory = Err (refusal NoProgram 0)
+archiveAnswer (Some p) memory = decided (startVerdict (Some p) (length memory)) (Ok (sizeOf p)) Err
+
+abbrev pub archiveMemory : Option Program → List ℕ → List ℕ
+archiveMemory None memory = memory
+archiveMemory (Some p) memory = decided (startVerdict (Some p) (length memory)) (sheetOf p ++ drop (sizeOf p) memory) (λ e. memory)

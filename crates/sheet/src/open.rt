@@ -35,7 +35,7 @@ pub struct Counts {
 fn number(low: u8, high: u8) -> u16
     ensures { λ r. ⌜ r ≡ low + high * 256 ⌝ }
 {
-    low as u16 + high as u16 * 256
+    u16::from_le_bytes([low, high])
 }
 
 // The header of a sheet, unless the sheet is too short for one.
@@ -63,8 +63,8 @@ fn is_consistent(header: Header, offset: usize, total: usize) -> bool
 {
     header.version == 1
         && header.nodes_at == 16
-        && header.code_at as usize == offset
-        && header.total as usize == total
+        && usize::from(header.code_at) == offset
+        && usize::from(header.total) == total
         && header.spare == 0
         && header.last == 0
 }
@@ -76,8 +76,8 @@ pub fn frame(sheet: &[u8]) -> Option<Counts>
     let Some(header) = open_header(sheet) else {
         return None;
     };
-    let nodes = header.nodes as usize;
-    let words = header.words as usize;
+    let nodes = usize::from(header.nodes);
+    let words = usize::from(header.words);
     let offset = HEADER + ENTRY * nodes;
     let total = offset + ENTRY * words;
     if is_consistent(header, offset, total) && sheet.len() == total {

@@ -4,7 +4,9 @@ ghost use Prim.Native.Nat.{_+_, _*_, _≤_};
 ghost use lib.ListN.{length, drop};
 ghost use Rattle.std.specs.shelf.Text.{sameBytes};
 ghost use Rattle.sheet.specs.Layout.{encoded};
+use crate::layout::ENTRY;
 use crate::layout::Entry;
+use crate::layout::HEADER;
 
 // Writes the entries from the start of `tail` on; the rest of it stays.
 pub fn write_entries<T: Entry>(tail: &mut [u8], entries: &[T])
@@ -13,7 +15,7 @@ pub fn write_entries<T: Entry>(tail: &mut [u8], entries: &[T])
 {
     for (i, entry) in entries.iter().enumerate() {
         let bytes = entry.to_bytes();
-        tail[8 * i..8 * i + 8].copy_from_slice(&bytes);
+        tail[ENTRY * i..ENTRY * i + ENTRY].copy_from_slice(&bytes);
     }
 }
 
@@ -22,7 +24,7 @@ pub fn write_header(memory: &mut [u8], bytes: &[u8; 16])
     requires { ⌜ 16 ≤ length (now memory) ⌝ }
     ensures { λ _. ⌜ now (memory .exit) ≡ now (bytes .entry) ++ drop 16 (now (memory .entry)) ⌝ }
 {
-    memory[..16].copy_from_slice(bytes);
+    memory[..HEADER].copy_from_slice(bytes);
 }
 
 pub fn same_bytes(left: &[u8], right: &[u8]) -> bool
@@ -35,12 +37,12 @@ pub fn same_bytes(left: &[u8], right: &[u8]) -> bool
 pub fn entries_match<T: Entry>(part: &[u8], entries: &[T]) -> bool
     ensures { λ r. ⌜ r ≡ sameBytes (now (part .entry)) (encoded (T·Entry .encoding) (now (entries .entry))) ⌝ }
 {
-    if part.len() % 8 != 0 || part.len() / 8 != entries.len() {
+    if part.len() % ENTRY != 0 || part.len() / ENTRY != entries.len() {
         return false;
     }
     for (i, entry) in entries.iter().enumerate() {
         let bytes = entry.to_bytes();
-        if !same_bytes(&part[8 * i..8 * i + 8], &bytes) {
+        if !same_bytes(&part[ENTRY * i..ENTRY * i + ENTRY], &bytes) {
             return false;
         }
     }

@@ -71,7 +71,7 @@ fn print_form(rt: &LibcRuntime, node: Node) -> io::Result<()> {
 // makes the listing end for any other.
 fn print_child(rt: &LibcRuntime, nodes: &[Node], n: usize, depth: usize, rule: Rule, child: u16) -> io::Result<()> {
     match rule {
-        Rule::Child(_) if usize::from(child) < n => print_node(rt, nodes, usize::from(child), depth + 1),
+        Rule::Child(_) if usize::from(child) < n => print_node(rt, nodes, usize::from(child), depth.saturating_add(1)),
         _ => Ok(()),
     }
 }

@@ -1,7 +1,5 @@
-use mathlib.Core.Path.{_≡_, sym}
-use mathlib.Core.Bool.{true, false}
+use mathlib.Core.Path.{sym}
 use native.Mathlib.Omega.{arith}
-use Rattle.language.specs.Fields.{formed}
 use Rattle.language.specs.Table.{at}
 use Rattle.language.proofs.ByKind.{unknown}
 use Rattle.language.proofs.Fielded.{tag-fault, rest-fault, formed-from}
@@ -20,21 +18,21 @@ returns-in-1-to-7-2 c =
 pub returns-in-1-to-7-3 : need.returns-in-1-to-7-3
 returns-in-1-to-7-3 c =
     let f = formed-from (at (c .args .nodes .now) (c .args .n)) (sym (c .if-not-keeps-tag .ensures tt)) (sym (c .if-not-keeps-fields .ensures tt)) in
-    let l = sym (c .if-not-has-lower-children .ensures tt) in
+    let l = sym (c .if-not-children-lower .ensures tt) in
     rw (f, l) (c .refuse-in-1-to-7-3 .ensures)
 
 pub returns-in-1-to-7-4 : need.returns-in-1-to-7-4
 returns-in-1-to-7-4 c =
     let f = formed-from (at (c .args .nodes .now) (c .args .n)) (sym (c .if-not-keeps-tag .ensures tt)) (sym (c .if-not-keeps-fields .ensures tt)) in
-    let l = sym (c .if-not-has-lower-children .ensures tt) in
-    let s = sym (c .if-not-has-fitting-children .ensures tt) in
+    let l = sym (c .if-not-children-lower .ensures tt) in
+    let s = sym (c .if-not-children-fit .ensures tt) in
     rw (f, l, s) (c .refuse-in-1-to-7-4 .ensures)
 
 pub returns-in-1-to-7-5 : need.returns-in-1-to-7-5
 returns-in-1-to-7-5 c =
     let f = formed-from (at (c .args .nodes .now) (c .args .n)) (sym (c .if-not-keeps-tag .ensures tt)) (sym (c .if-not-keeps-fields .ensures tt)) in
-    let l = sym (c .if-not-has-lower-children .ensures tt) in
-    let s = sym (c .if-not-has-fitting-children .ensures tt) in
+    let l = sym (c .if-not-children-lower .ensures tt) in
+    let s = sym (c .if-not-children-fit .ensures tt) in
     rw (f, l, s)
 
 pub returns-in-rest : need.returns-in-rest

@@ -1,11 +1,9 @@
-use borrow.Author.Needs.{needs}
 use mathlib.Core.Path.{_≡_, refl, sym, ap, _∙_}
-use Prim.Native.Nat.{ℕ, zero, suc, _<_, _≤_, _+_, _-_}
+use Prim.Native.Nat.{ℕ, zero, suc, _+_, _-_}
 use native.Mathlib.Omega.{arith}
 use lib.ListN.{length, getD, replicate}
-use Rattle.std.proofs.shelf.Tests.{eq-eqb, ne-eqb}
-use Rattle.language.specs.Fields.{children}
-use Rattle.language.specs.Table.{at, times, childrenIn, rootOf}
+use Rattle.std.proofs.shelf.Tests.{ne-eqb}
+use Rattle.language.specs.Table.{times, childrenIn, rootOf}
 use Rattle.language.specs.Verdicts.{parentVerdict}
 use Rattle.language.proofs.Fielded.{lower-more, one-more-node, few-children}
 use Rattle.language.proofs.Upward.{passed, refused, done}
@@ -22,8 +20,9 @@ loop-n-holds c = (refl, λ k. zeros 512 k)
 
 pub tally-node-requires : need.tally-node-requires
 tally-node-requires c κs = record {
-    within = lower-more (c .loop-n .n) _ _ (omega (arith, c .loop-n .inv .0)) (c .pre .below (c .loop-n .n) (omega arith));
-    small = λ k. omega (arith, c .loop-n .inv .1 k, few-children (c .args .nodes .now) (c .loop-n .n) k) }
+  within = lower-more (c .loop-n .n) _ _ (omega (arith, c .loop-n .inv .0)) (c .pre .below (c .loop-n .n) (omega arith));
+  small = λ k. omega (arith, c .loop-n .inv .1 k, few-children (c .args .nodes .now) (c .loop-n .n) k);
+}
 
 pub loop-n-again : need.loop-n-again
 loop-n-again c = (omega arith, λ k. omega (arith, c .tally-node .ensures k, c .loop-n .inv .1 k, one-more-node (c .args .nodes .now) (c .loop-n .n) k))

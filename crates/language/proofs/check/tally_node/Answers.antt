@@ -1,8 +1,6 @@
-use mathlib.Core.Path.{_≡_, sym, ap, _∙_}
-use Prim.Native.Nat.{ℕ, _<_, _≤_, _+_}
+use mathlib.Core.Path.{sym}
 use native.Mathlib.Omega.{arith}
-use lib.ListN.{length, getD}
-use Rattle.language.specs.Table.{times}
+use lib.ListN.{length}
 use Rattle.language.proofs.Fielded.{lower-fields, lower-more, times-fields, field-few, none-held}
 use Rattle.language.proofs.check.tally_node.Needs as need
 

@@ -1,9 +1,7 @@
-use borrow.Author.Needs.{needs}
-use mathlib.Core.Path.{_≡_, ap, _∙_}
-use Prim.Native.Nat.{_<_, _*_}
+use mathlib.Core.Path.{ap, _∙_}
+use Prim.Native.Nat.{_<_}
 use native.Mathlib.Omega.{arith}
 use lib.ListN.{length, set}
-use Rattle.language.specs.Table.{nodeAt}
 use Rattle.language.proofs.Filling.{filled-none, filled-more}
 use Rattle.language.proofs.read.read_nodes.Needs as need
 

@@ -1,5 +1,4 @@
-use mathlib.Core.Path.{_≡_, _∙_, ap, sym}
-use mathlib.Core.Logic.{inl, inr}
+use mathlib.Core.Path.{_≡_, _∙_, ap}
 use Prim.Native.Nat.{_*_}
 use lib.ListN.{length}
 use native.Mathlib.Omega.{arith}
@@ -15,13 +14,13 @@ pub loop-i-again : need.loop-i-again
 loop-i-again g c =
     let m = g .T·Entry in
     match-step (m .encoding) (m .eight) (c .args .part .now) (c .to-bytes-bytes .result) (c .args .entries .now) (c .loop-i .i) (c .index-entries-i .result) (c .loop-i-test .taken)
-      (c .to-bytes-bytes .ensures ∙ ap (m .encoding) (c .index-entries-i .is)) (sym (c .if-not-same-bytes .ensures tt)) (c .loop-i .inv)
+      (c .to-bytes-bytes .ensures ∙ ap (m .encoding) (c .index-entries-i .is)) (c .if-not-same-bytes .ensures tt) (c .loop-i .inv)
 
 pub returns-then-not-same-bytes : need.returns-then-not-same-bytes
 returns-then-not-same-bytes g c =
     let m = g .T·Entry in
     match-not (m .encoding) (m .eight) (c .args .part .now) (c .to-bytes-bytes .result) (c .args .entries .now) (c .loop-i .i) (c .index-entries-i .result) (c .loop-i-test .taken)
-      (c .to-bytes-bytes .ensures ∙ ap (m .encoding) (c .index-entries-i .is)) (sym (c .if-not-same-bytes .ensures tt))
+      (c .to-bytes-bytes .ensures ∙ ap (m .encoding) (c .index-entries-i .is)) (c .if-not-same-bytes .ensures tt)
 
 pub returns : need.returns
 returns g c =

@@ -1,11 +1,9 @@
-use borrow.Author.Needs.{needs}
 use mathlib.Core.Path.{refl, sym, ap}
 use native.Mathlib.Omega.{arith}
 use lib.Dec.{ltb}
-use Rattle.language.specs.Fields.{isOf}
-use Rattle.language.specs.Table.{at, lower, fitting}
+use Rattle.language.specs.Table.{lower}
 use Rattle.language.proofs.Fielded.{all-fields, none-held}
-use Rattle.language.proofs.check.has_lower_children.Needs as need
+use Rattle.language.proofs.check.children_lower.Needs as need
 
 pub returns-in-None : need.returns-in-None
 returns-in-None c = sym (ap (lower (c .args .n)) (none-held (c .args .node) (sym (c .in-None .ensures tt))))
