@@ -2,4 +2,3 @@ pub mod Reports
 pub mod Model
 pub mod Accepts
 pub mod Calls
-pub mod Rewinding

@@ -1,6 +1,5 @@
 ghost use mathlib.Core.Path.{_≡_};
-ghost use Rattle.sequencer.specs.Model.{model, fresh, begun, held, nodesIn, codeOf};
-ghost use Rattle.sequencer.specs.Rewinding.{rewound};
+ghost use Rattle.sequencer.specs.Model.{model, fresh, begun, rewound, held, nodesIn, codeOf};
 use crate::program::Program;
 use crate::state::Sequencer;
 use machine::state::Machine;

@@ -1,4 +1,4 @@
-ghost use Rattle.sequencer.specs.Rewinding.{Rewound};
+ghost use Rattle.sequencer.specs.Calls.{Rewound};
 use crate::state::Sequencer;
 use vocabulary::refusal::Cause;
 use vocabulary::refusal::Refusal;

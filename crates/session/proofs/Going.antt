@@ -26,16 +26,15 @@ use Rattle.language.specs.Verdicts.{shapeVerdict, tableVerdict}
 use Rattle.language.proofs.Accepted.{well-formed}
 use Rattle.language.proofs.Filling.{length-nodes}
 use Rattle.language.proofs.Sizes.{root-size}
-use Rattle.language.proofs.Upward.{both-ok}
+use Rattle.language.proofs.Verdicts.{both-accept}
 use Rattle.machine.specs.Machine.{iterate, taken, start}
 use Rattle.machine.specs.State.{Ports}
-use Rattle.sheet.specs.Layout.{Program}
+use Rattle.sheet.specs.Faithful.{programOf}
 use Rattle.sheet.specs.Sheets.{openVerdict, tablePart}
 use Rattle.agreement.specs.Agreement.{Agreement}
 use Rattle.agreement.proofs.Steps.{iterate-add}
 use Rattle.sequencer.specs.Calls.{programVerdict, runVerdict, told, stateOf, Stepped}
-use Rattle.sequencer.specs.Model.{Model, begun, programOf, codeOf}
-use Rattle.sequencer.specs.Rewinding.{rewound}
+use Rattle.sequencer.specs.Model.{Model, begun, rewound, codeOf}
 use Rattle.session.specs.declared.Call.{Call}
 use Rattle.session.specs.declared.Call.the-variants.{Load, Open, Rewind, Run, Report}
 use Rattle.session.specs.declared.Answer.{Answer}
@@ -77,7 +76,7 @@ refused-is (Run fuel) e = refl
 refused-is Report e = refl
 
 shape-ok : (table : List ℕ) → tableVerdict table ≡ Ok tt → shapeVerdict (nodesOf table) ≡ Ok tt
-shape-ok table e = both-ok _ _ (both-ok _ _ e .1) .0
+shape-ok table e = both-accept _ _ (both-accept _ _ e .1) .0
 
 module _ (R : Rules) (limit : 512 ≤ R .limit) where
   -- the tree of an accepted table is within the maximum
@@ -164,7 +163,7 @@ module _ (R : Rules) (limit : 512 ≤ R .limit) where
       (λ e r s. goes-refused current (Load table) answer e m m′ o o′ g r s)
   goes current (Open sheet) answer m m′ o o′ g a =
       by-verdict (openVerdict (now sheet)) (scene m o) answer (scene m′ o′) _ _ a
-      (λ v d. subst (λ r. Goes R current (eventOf (Open sheet) r) o m′ o′) (sym (d .0)) (goes-begun current (tablePart (now sheet)) m′ o o′ m (both-ok _ _ (both-ok _ _ v .1) .0) (d .1)))
+      (λ v d. subst (λ r. Goes R current (eventOf (Open sheet) r) o m′ o′) (sym (d .0)) (goes-begun current (tablePart (now sheet)) m′ o o′ m (both-accept _ _ (both-accept _ _ v .1) .0) (d .1)))
       (λ e r s. goes-refused current (Open sheet) answer e m m′ o o′ g r s)
   goes current Rewind answer m m′ o o′ g a =
       by-verdict (programVerdict m) (scene m o) answer (scene m′ o′) _ _ a
@@ -172,7 +171,7 @@ module _ (R : Rules) (limit : 512 ≤ R .limit) where
       (λ e r s. goes-refused current Rewind answer e m m′ o o′ g r s)
   goes current (Run fuel) answer m m′ o o′ g a =
       by-verdict (runVerdict m fuel) (scene m o) answer (scene m′ o′) _ _ a
-      (λ v d. subst (λ r. Goes R current (eventOf (Run fuel) r) o m′ o′) (sym (d .0)) (goes-granted current fuel m m′ o o′ g (both-ok _ _ v .0) (d .1)))
+      (λ v d. subst (λ r. Goes R current (eventOf (Run fuel) r) o m′ o′) (sym (d .0)) (goes-granted current fuel m m′ o o′ g (both-accept _ _ v .0) (d .1)))
       (λ e r s. goes-refused current (Run fuel) answer e m m′ o o′ g r s)
   goes current Report answer m m′ o o′ g a =
       by-verdict (programVerdict m) (scene m o) answer (scene m′ o′) _ _ a

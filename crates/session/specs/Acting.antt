@@ -2,16 +2,18 @@
 use mathlib.Core.Path.{_≡_}
 use Prim.Native.Nat.{ℕ}
 use denote.Ref.{now}
+use Rattle.std.specs.declared.result.Result.{Result}
 use Rattle.std.specs.declared.result.Result.the-variants.{Ok, Err}
+use Rattle.vocabulary.specs.declared.refusal.Refusal.{Refusal}
 use Rattle.vocabulary.specs.Refusals.{Verdict}
 use Rattle.vocabulary.specs.World.{Rules}
 use Rattle.language.specs.Verdicts.{tableVerdict}
 use Rattle.machine.specs.State.{Ports}
-use Rattle.sheet.specs.Layout.{Program}
+use Rattle.sheet.specs.Faithful.{programOf}
 use Rattle.sheet.specs.Sheets.{openVerdict, tablePart}
-use Rattle.sequencer.specs.Model.{Model, begun, programOf}
+use Rattle.sequencer.specs.declared.report.Report.{Report as ReportType}
+use Rattle.sequencer.specs.Model.{Model, begun, rewound}
 use Rattle.sequencer.specs.Calls.{programVerdict, runVerdict, told, Stepped}
-use Rattle.sequencer.specs.Rewinding.{rewound}
 use Rattle.session.specs.declared.Call.{Call}
 use Rattle.session.specs.declared.Call.the-variants.{Load, Open, Rewind, Run, Report}
 use Rattle.session.specs.declared.Answer.{Answer}
@@ -24,6 +26,15 @@ pub record Scene : Type 0 where
 
 abbrev pub scene : Model → Ports → Scene
 scene m o = record { sequencer = m; ports = o }
+
+-- what a call by itself gives, as an answer: done, or how the take stands
+abbrev pub doneAnswer : Verdict → Answer
+doneAnswer (Ok _) = Done
+doneAnswer (Err e) = Refused e
+
+abbrev pub toldAnswer : Result ReportType Refusal → Answer
+toldAnswer (Ok r) = Told r
+toldAnswer (Err e) = Refused e
 
 -- refused, a call answers the refusal and changes nothing; accepted, it does this
 abbrev pub Decided : Verdict → Scene → Answer → Scene → Type 0 → Type 0
