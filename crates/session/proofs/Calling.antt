@@ -23,22 +23,22 @@ use Rattle.session.specs.Acting.{doneAnswer, toldAnswer, Scene, scene, Decided
 -- a call that begins a take, by its verdict
 begins : (v : Verdict) (m : Model) (before after : Sequencer) (o : Ports) (r : Verdict) (a : Answer) → r ≡ v → Begins m before after r → a ≡ doneAnswer r →
     Decided v (scene (model before) o) a (scene (model after) o) (Becomes m (scene (model before) o) a (scene (model after) o))
-begins v m before after o (Ok u) a h b e =
-    subst (λ x. Decided x (scene (model before) o) a (scene (model after) o) (Becomes m (scene (model before) o) a (scene (model after) o))) h
-    (e, ap (λ x. scene x o) b)
-begins v m before after o (Err y) a h b e =
-    subst (λ x. Decided x (scene (model before) o) a (scene (model after) o) (Becomes m (scene (model before) o) a (scene (model after) o))) h
-    (e, ap (λ s. scene (model s) o) b)
+begins v m before after o r a h b e =
+    subst (λ x. Decided x (scene (model before) o) a (scene (model after) o) (Becomes m (scene (model before) o) a (scene (model after) o))) h (cases r b e)
+  where
+    cases : (r : Verdict) → Begins m before after r → a ≡ doneAnswer r →
+        Decided r (scene (model before) o) a (scene (model after) o) (Becomes m (scene (model before) o) a (scene (model after) o))
+    cases (Ok u) b e = (e, ap (λ x. scene x o) b)
+    cases (Err y) b e = (e, ap (λ s. scene (model s) o) b)
 
+-- a run, by its answer
 ran : (R : Rules) (fuel : ℕ) (before after : Sequencer) (o o′ : Ports) (r : Result ReportType Refusal) (a : Answer) → RunAnswer R fuel before after o o′ r → a ≡ toldAnswer r →
     Acted R (Run fuel) (scene (model before) o) a (scene (model after) o′)
-ran R fuel before after o o′ (Ok x) a h e =
-    subst (λ v. Decided v (scene (model before) o) a (scene (model after) o′) ((a ≡ Told (told (model after))) × Stepped R fuel (model before) (model after) o o′))
-    (sym (h .0)) (e ∙ ap Told (h .2), h .1)
+ran R fuel before after o o′ (Ok x) a h e = simp (h .0) (e ∙ ap Told (h .2), h .1)
 ran R fuel before after o o′ (Err x) a h e =
-    subst (λ v. Decided v (scene (model before) o) a (scene (model after) o′) ((a ≡ Told (told (model after))) × Stepped R fuel (model before) (model after) o o′))
-    (sym (h .0)) (e, ap (λ s. scene (model s) o′) (h .1) ∙ ap (scene (model before)) (h .2))
+    simp (h .0) (e, ap (λ s. scene (model s) o′) (h .1) ∙ ap (scene (model before)) (h .2))
 
+-- a report, by its verdict
 reported : (v : Verdict) (s : Scene) (x : ReportType) (r : Result ReportType Refusal) (a : Answer) → r ≡ andOther v (Ok x) → a ≡ toldAnswer r →
     Decided v s a s ((a ≡ Told x) × (s ≡ s))
 reported (Ok u) s x r a h e = (e ∙ ap toldAnswer h, refl)

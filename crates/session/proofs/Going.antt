@@ -56,12 +56,6 @@ pub record Goes (R : Rules) (current : Option Take) (e : Event) (before : Ports)
   pub on : Going R (onward e before after current) m after
   pub truly : TrueOf e current
 
--- an accepted call, or a refused one
-by-verdict : (v : Verdict) (before : Scene) (answer : Answer) (after : Scene) (P G : Type 0) → Decided v before answer after P →
-    (v ≡ Ok tt → P → G) → ((e : Refusal) → answer ≡ Refused e → after ≡ before → G) → G
-by-verdict (Ok u) before answer after P G d accepted other = accepted refl d
-by-verdict (Err e) before answer after P G d accepted other = other e (d .0) (d .1)
-
 -- where there is no program, nothing is accepted that wants one
 no-program : (m : Model) → m .program ≡ None → programVerdict m ≡ Ok tt → ⊥
 no-program m e h =
@@ -121,16 +115,9 @@ module _ (R : Rules) (limit : 512 ≤ R .limit) where
   stays None m o g = g
   stays (Some t) m o g = (refl, subst (λ s. At R (lasting s t) m) (g .0) (g .1))
 
-  goes-refused : (current : Option Take) (call : Call) (answer : Answer) (e : Refusal) (m m′ : Model) (o o′ : Ports) →
-      Going R current m o → answer ≡ Refused e → scene m′ o′ ≡ scene m o → Goes R current (eventOf call answer) o m′ o′
-  goes-refused current call answer e m m′ o o′ g a s =
-      let f : eventOf call answer ≡ refused = ap (eventOf call) a ∙ refused-is call e in
-      subst (λ v. Goes R current v o m′ o′) (sym f)
-      (subst (λ (z : Scene). Goes R current refused o (z .sequencer) (z .ports)) (sym s) (record { on = stays current m o g; truly = tt }))
-
-  goes-begun : (current : Option Take) (table : List ℕ) (m′ : Model) (o o′ : Ports) (m : Model) →
+  goes-begun : (current : Option Take) (table : List ℕ) (m′ : Model) (o o′ : Ports) →
       tableVerdict table ≡ Ok tt → scene m′ o′ ≡ scene (begun (programOf table)) o → Goes R current (begins (treeOf (nodesOf table))) o m′ o′
-  goes-begun current table m′ o o′ m e s =
+  goes-begun current table m′ o o′ e s =
       subst (λ (z : Scene). Goes R current (begins (treeOf (nodesOf table))) o (z .sequencer) (z .ports)) (sym s)
       (record { on = (refl, at-table table e o); truly = tt })
 
@@ -154,29 +141,32 @@ module _ (R : Rules) (limit : 512 ≤ R .limit) where
       subst (λ (z : Scene). Goes R (Some t) (reports (told m)) o (z .sequencer) (z .ports)) (sym s)
       (record { on = stays (Some t) m o g; truly = (t, refl, sym (g .1 .told)) })
 
-  -- one call
+  -- one call, by its verdict: a refused one changes nothing, and one that is accepted with an answer does what its event says
+  module _ (current : Option Take) (call : Call) (answer : Answer) (m m′ : Model) (o o′ : Ports) (g : Going R current m o) where
+    by-verdict : (v : Verdict) (r : Answer) (P : Type 0) → Decided v (scene m o) answer (scene m′ o′) ((answer ≡ r) × P) →
+        (v ≡ Ok tt → P → Goes R current (eventOf call r) o m′ o′) → Goes R current (eventOf call answer) o m′ o′
+    by-verdict (Ok u) r P d accepted = subst (λ x. Goes R current (eventOf call x) o m′ o′) (sym (d .0)) (accepted refl (d .1))
+    by-verdict (Err e) r P d accepted =
+        subst (λ v. Goes R current v o m′ o′) (sym (ap (eventOf call) (d .0) ∙ refused-is call e))
+        (subst (λ (z : Scene). Goes R current refused o (z .sequencer) (z .ports)) (sym (d .1)) (record { on = stays current m o g; truly = tt }))
+
   goes : (current : Option Take) (call : Call) (answer : Answer) (m m′ : Model) (o o′ : Ports) → Going R current m o →
       Acted R call (scene m o) answer (scene m′ o′) → Goes R current (eventOf call answer) o m′ o′
   goes current (Load table) answer m m′ o o′ g a =
-      by-verdict (tableVerdict (now table)) (scene m o) answer (scene m′ o′) _ _ a
-      (λ v d. subst (λ r. Goes R current (eventOf (Load table) r) o m′ o′) (sym (d .0)) (goes-begun current (now table) m′ o o′ m v (d .1)))
-      (λ e r s. goes-refused current (Load table) answer e m m′ o o′ g r s)
+      by-verdict current (Load table) answer m m′ o o′ g (tableVerdict (now table)) Done _ a
+      (λ v s. goes-begun current (now table) m′ o o′ v s)
   goes current (Open sheet) answer m m′ o o′ g a =
-      by-verdict (openVerdict (now sheet)) (scene m o) answer (scene m′ o′) _ _ a
-      (λ v d. subst (λ r. Goes R current (eventOf (Open sheet) r) o m′ o′) (sym (d .0)) (goes-begun current (tablePart (now sheet)) m′ o o′ m (both-accept _ _ (both-accept _ _ v .1) .0) (d .1)))
-      (λ e r s. goes-refused current (Open sheet) answer e m m′ o o′ g r s)
+      by-verdict current (Open sheet) answer m m′ o o′ g (openVerdict (now sheet)) Done _ a
+      (λ v s. goes-begun current (tablePart (now sheet)) m′ o o′ (both-accept _ _ (both-accept _ _ v .1) .0) s)
   goes current Rewind answer m m′ o o′ g a =
-      by-verdict (programVerdict m) (scene m o) answer (scene m′ o′) _ _ a
-      (λ v d. subst (λ r. Goes R current (eventOf Rewind r) o m′ o′) (sym (d .0)) (goes-again current m m′ o o′ g v (d .1)))
-      (λ e r s. goes-refused current Rewind answer e m m′ o o′ g r s)
+      by-verdict current Rewind answer m m′ o o′ g (programVerdict m) Done _ a
+      (λ v s. goes-again current m m′ o o′ g v s)
   goes current (Run fuel) answer m m′ o o′ g a =
-      by-verdict (runVerdict m fuel) (scene m o) answer (scene m′ o′) _ _ a
-      (λ v d. subst (λ r. Goes R current (eventOf (Run fuel) r) o m′ o′) (sym (d .0)) (goes-granted current fuel m m′ o o′ g (both-accept _ _ v .0) (d .1)))
-      (λ e r s. goes-refused current (Run fuel) answer e m m′ o o′ g r s)
+      by-verdict current (Run fuel) answer m m′ o o′ g (runVerdict m fuel) (Told (told m′)) _ a
+      (λ v s. goes-granted current fuel m m′ o o′ g (both-accept _ _ v .0) s)
   goes current Report answer m m′ o o′ g a =
-      by-verdict (programVerdict m) (scene m o) answer (scene m′ o′) _ _ a
-      (λ v d. subst (λ r. Goes R current (eventOf Report r) o m′ o′) (sym (d .0)) (goes-reported current m m′ o o′ g v (d .1)))
-      (λ e r s. goes-refused current Report answer e m m′ o o′ g r s)
+      by-verdict current Report answer m m′ o o′ g (programVerdict m) (Told (told m)) _ a
+      (λ v s. goes-reported current m m′ o o′ g v s)
 
   module _ (agreement : Agreement) where
     law-on : (current : Option Take) (m : Model) (o : Ports) → Going R current m o → All (Law R) (listed current)

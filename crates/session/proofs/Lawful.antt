@@ -61,19 +61,18 @@ halted-stands (Halted f j) k o e n w h = cc
 halted-stands Broken k o e n w h = let z : _≡_ {A = ℕ} 0 1 = cc in absurd (omega arith)
 
 -- feed and strip are all that a first part speaks of
+of-ports : (before : World) (k : Core) (o : Ports) (later : World) → FirstPart before (joined k o .world) later → FirstPart before (worldOf o) later
+of-ports before k o later p = record {
+    items = p .items;
+    values = p .values;
+    moreItems = p .moreItems;
+    moreValues = p .moreValues;
+    part = record { fed = p .part .fed; held = p .part .held };
+    whole = p .whole }
+
 first-part : (before : World) (k : Core) (o : Ports) (c : Course) → FirstPartOf before (joined k o .world) c → FirstPartOf before (worldOf o) c
-first-part before k o (finished e n w b) f = part f
-  where
-    part : FirstPart before (joined k o .world) w → FirstPart before (worldOf o) w
-    part p = record {
-        items = p .items; values = p .values; moreItems = p .moreItems; moreValues = p .moreValues;
-        part = record { fed = p .part .fed; held = p .part .held }; whole = p .whole }
-first-part before k o (unfinished w) f = part f
-  where
-    part : FirstPart before (joined k o .world) w → FirstPart before (worldOf o) w
-    part p = record {
-        items = p .items; values = p .values; moreItems = p .moreItems; moreValues = p .moreValues;
-        part = record { fed = p .part .fed; held = p .part .held }; whole = p .whole }
+first-part before k o (finished e n w b) f = of-ports before k o w f
+first-part before k o (unfinished w) f = of-ports before k o w f
 first-part before k o meaningless f = f
 
 module _ (R : Rules) (t : Take) (m : Model) (agrees : Agrees R (t .tree) (worldOf (t .start))) (at : At R t m) where

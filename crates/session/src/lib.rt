@@ -10,10 +10,13 @@ ghost use Rattle.session.specs.Law.{Session};
 use ports::feed::Feed;
 use ports::strip::Strip;
 use sequencer::report::Report;
+use sequencer::report::ReportDisplay;
 use sequencer::state::Sequencer;
 use std::alloc::AllocError;
 use std::alloc::Global;
+use std::fmt;
 use vocabulary::refusal::Refusal;
+use vocabulary::refusal::RefusalDisplay;
 
 // The calls of a session.
 #[derive(Drop)]
@@ -31,6 +34,16 @@ pub enum Answer {
     Done,
     Told(Report),
     Refused(Refusal),
+}
+
+pub impl fmt::Display for Answer as AnswerDisplay {
+    fn fmt<W: fmt::Write>(&self, f: &mut fmt::Formatter<W>) -> fmt::Result {
+        match self {
+            Answer::Done => f.write_str("done"),
+            Answer::Told(report) => write!(f, "{report}"),
+            Answer::Refused(refusal) => write!(f, "{refusal}"),
+        }
+    }
 }
 
 fn done(result: Result<(), Refusal>) -> Answer
