@@ -1,40 +1,36 @@
--- The simulation of commands, a lemma for each form, by induction on the depth.
-use mathlib.Core.Path.{_≡_, refl, sym, _∙_, ap, subst}
-use mathlib.Core.List.{List, [], _∷_, _++_}
+-- The simulation of commands: a lemma for each form that has one of its own, and then the induction on the depth. A command leaves the
+-- machine's tables as it found them, and as many cells.
+use mathlib.Core.Path.{refl, _∙_}
+use mathlib.Core.List.{_∷_}
 use mathlib.Core.Bool.{Bool, true, false}
-use Prim.Native.Nat.{ℕ, zero, suc, _+_, _*_, _≤_, _<_, min}
+use Prim.Native.Nat.{ℕ, zero, suc, _+_, _≤_}
 use native.Mathlib.Omega.{arith}
-use lib.ListN.{length, take, set, drop, length-set, length-take}
-use Rattle.std.specs.declared.option.Option.the-variants.{Some}
-use Rattle.vocabulary.specs.declared.code.Instruction.the-variants.{JumpFalse, Jump, IsLoc, Store, Put, Enter, Leave, Call}
+use lib.ListN.{length, set, length-set, length-take}
+use Rattle.vocabulary.specs.declared.code.Instruction.the-variants.{JumpFalse, Jump, IsLoc, Store, Put, Enter, Leave}
 use Rattle.vocabulary.specs.declared.value.Plain.{Plain}
 use Rattle.vocabulary.specs.declared.value.Plain.the-variants.{Number, Truth}
 use Rattle.vocabulary.specs.declared.value.Value.{Value}
 use Rattle.vocabulary.specs.declared.value.Value.the-variants.{Plain as plain, Location}
-use Rattle.vocabulary.specs.Tables.{found}
 use Rattle.vocabulary.specs.World.{World, withCells, hasRoom}
-use Rattle.language.specs.declared.name.Entry.{Entry}
 use Rattle.language.specs.declared.name.Role.the-variants.{Procedure}
 use Rattle.language.specs.Tree.{Expression, Command, Declaration, sizeE, sizeC, sizeD}
 use Rattle.language.specs.Tree.Command.{assign, output, when, while, block, sequence, procedureCall}
 use Rattle.language.specs.Scope.{scopeAfter}
 use Rattle.language.specs.Translation.{behindE, behindC, behindD, plainEnd}
-use Rattle.language.specs.Outcomes.{Denoted, Binding, bind, plainly, tested, located, putting, asProcedure}
-use Rattle.language.specs.Outcomes.Binding.{binding}
-use Rattle.language.specs.Outcomes.Denoted.{value, procedureBody, functionBody}
+use Rattle.language.specs.Outcomes.{bind, plainly, tested, located, putting, asProcedure}
+use Rattle.language.specs.Outcomes.Denoted.{procedureBody}
 use Rattle.language.specs.Outcomes.Found.{named}
 use Rattle.language.specs.Outcomes.Outcome.{done}
 use Rattle.language.specs.Meaning.{evalE, evalC}
-use Rattle.machine.specs.declared.tables.Bound.{Bound}
-use Rattle.machine.specs.State.{Config, config, ahead, ports, spentIn, noted}
+use Rattle.machine.specs.State.{config, ahead, ports, spentIn, noted}
 use Rattle.machine.specs.State.Dump.{frame}
 use Rattle.machine.specs.Instructions.{putIf}
 use Rattle.agreement.proofs.Steps.{Setup, Is, Reach, stay, then, also}
 use Rattle.agreement.proofs.Placed.{expressions, plains, commands, declarations, Placed, part}
-use Rattle.agreement.proofs.Scene.{Match, roleOf, Corresponds, Scene, Waiting, on, AllInside, weight, bodies, Fits, fits-part, fits-on}
+use Rattle.agreement.proofs.Scene.{Scene, Waiting, on, Fits, fits-part, fits-on}
 use Rattle.agreement.proofs.Lookup.{resolve, procedure-at}
 use Rattle.agreement.proofs.Instructions.{noting, with-room}
-use Rattle.agreement.proofs.Simulation.{aValue, aPlain, aCommand, is-done, is-ended, is-cut, andThen, lastly, at, Done, Does, SimC}
+use Rattle.agreement.proofs.Simulation.{aValue, aPlain, aCommand, is-done, is-ended, is-cut, andThen, lastly, at, Done, sceneAfter, waitingAfter, fits-after, Does, SimC}
 use Rattle.agreement.proofs.Shared.{a-node-at-least, simPlain, choosing, calling}
 use Rattle.agreement.proofs.Expressions.{simE}
 use Rattle.agreement.proofs.Declarations.{simD}
@@ -53,10 +49,10 @@ module _ (S : Setup) where
         andThen S _ (stay S) (omega arith) (omega arith)
         (ih a Γ K p w b r (qa .0) (fits-part w (sizeC a) fits refl (omega arith)) hb)
         (λ u w₁ b₁ s₁ d₁.
-          lastly S (d₁ .reach) (omega arith) (omega arith)
-          (ih c Γ K (behindC a p) w₁ b₁ r (record { named = placed .named .1; stands = qa .1 }) (fits-part w₁ (sizeC c) fits (d₁ .same) (omega arith)) (omega arith))
-          (λ u₂ w₂ b₂ s₂ d₂.
-            (s₁ + s₂, record { reach = then S (d₁ .reach) (d₂ .reach); most = omega arith; least = omega arith; same = d₂ .same ∙ d₁ .same; inside = tt })))
+        lastly S (d₁ .reach) (omega arith) (omega arith)
+        (ih c Γ K (behindC a p) w₁ b₁ r (record { named = placed .named .1; stands = qa .1 }) (fits-part w₁ (sizeC c) fits (d₁ .same) (omega arith)) (omega arith))
+        (λ u₂ w₂ b₂ s₂ d₂.
+        (s₁ + s₂, record { reach = then S (d₁ .reach) (d₂ .reach); most = omega arith; least = omega arith; same = d₂ .same ∙ d₁ .same; inside = tt })))
 
     output-case : (nd : ℕ) (a : Expression) → Claim (output nd a)
     unfolding evalC
@@ -68,7 +64,7 @@ module _ (S : Setup) where
       where
         put : (v : Plain) (w₁ : World) (b₁ s₁ : ℕ) → Done S aPlain Γ K p (plainEnd a (behindE a p)) w b v w₁ b₁ s₁ →
             (t : Bool) → Reach S (at S Γ K p w) (s₁ + 1) (noted nd (spentIn (putIf (S .rules .price) t v (K .values)
-              (ahead (config (plainEnd a (behindE a p)) (plain v ∷ K .values) (Γ .environment) (K .used) (K .dump) w₁)) (w₁ .strip) (w₁ .space)) (ports (w₁ .feed) (w₁ .strip) (w₁ .space)))) →
+            (ahead (config (plainEnd a (behindE a p)) (plain v ∷ K .values) (Γ .environment) (K .used) (K .dump) w₁)) (w₁ .strip) (w₁ .space)) (ports (w₁ .feed) (w₁ .strip) (w₁ .space)))) →
             Does S aCommand Γ K p (behindC (output nd a) p) w (suc b) (sizeC (output nd a)) (putting nd (S .rules) v w₁ b₁ t)
         put v w₁ b₁ s₁ d₁ true re = is-done S (s₁ + 1) (record { reach = re; most = omega arith; least = omega arith; same = d₁ .same; inside = tt })
         put v w₁ b₁ s₁ d₁ false re = is-ended S (s₁ + 1) re (omega arith)
@@ -92,12 +88,16 @@ module _ (S : Setup) where
             let i = d₁ .inside in let na = a-node-at-least a in
             andThen S _ r₁ (omega arith) (omega arith)
             (simPlain S g (simE S g) c Γ (on (Location l) K) (suc (behindE a p)) w₁ b₁ (suc r) right
-              (fits-on w₁ (sizeE c) (Location l) fits (d₁ .same) (omega arith)) (omega arith))
+            (fits-on w₁ (sizeE c) (Location l) fits (d₁ .same) (omega arith)) (omega arith))
             (λ v w₂ b₂ s₂ d₂.
-              is-done S (s₁ + 1 + s₂ + 1) (record {
-                reach = also S Store nd (then S r₁ (d₂ .reach)) store (omega arith)
+            is-done S (s₁ + 1 + s₂ + 1) (record {
+              reach = also S Store nd (then S r₁ (d₂ .reach)) store (omega arith)
                   (noting nd (ports (w₂ .feed) (w₂ .strip) (w₂ .space)) (with-room l (length (w₂ .cells)) _ (omega arith)));
-                most = omega arith; least = omega arith; same = length-set (w₂ .cells) l v ∙ (d₂ .same ∙ d₁ .same); inside = tt }))
+              most = omega arith;
+              least = omega arith;
+              same = length-set (w₂ .cells) l v ∙ (d₂ .same ∙ d₁ .same);
+              inside = tt;
+            }))
 
     while-case : (nd : ℕ) (a : Expression) (c : Command) → Claim (while nd a c)
     unfolding evalC
@@ -114,19 +114,27 @@ module _ (S : Setup) where
             Does S aCommand Γ K p (behindC (while nd a c) p) w (suc b) (sizeC (while nd a c))
             (tested nd x w₁ b₁ λ t. elim t [
               | true ↦ bind (evalC (S .rules) g c (Γ .bindings) w₁ b₁) (λ u w₂ b₂. evalC (S .rules) g (while nd a c) (Γ .bindings) w₂ b₂)
-              | false ↦ done tt w₁ b₁ ])
+              | false ↦ done tt w₁ b₁
+            ])
         go jf body jump (Number z) w₁ b₁ s₁ d₁ = is-ended S (s₁ + 1) (also S _ nd (d₁ .reach) jf (omega arith) refl) (omega arith)
         go jf body jump (Truth true) w₁ b₁ s₁ d₁ =
             let r₁ = also S _ nd (d₁ .reach) jf (omega arith) refl in
             andThen S _ r₁ (omega arith) (omega arith)
             (ih c Γ K _ w₁ b₁ r body (fits-part w₁ (sizeC c) fits (d₁ .same) (omega arith)) (omega arith))
             (λ u w₂ b₂ s₂ d₂.
-              let r₂ = also S _ nd (then S r₁ (d₂ .reach)) jump (omega arith) refl in
-              lastly S r₂ (omega arith) (omega arith)
-              (ih (while nd a c) Γ K p w₂ b₂ r placed (fits-part w₂ _ fits (d₂ .same ∙ d₁ .same) (omega arith)) (omega arith))
-              (λ u₃ w₃ b₃ s₃ d₃.
-                (s₁ + 1 + s₂ + 1 + s₃, record {
-                  reach = then S r₂ (d₃ .reach); most = omega arith; least = omega arith; same = d₃ .same ∙ (d₂ .same ∙ d₁ .same); inside = tt })))
+            let r₂ = also S _ nd (then S r₁ (d₂ .reach)) jump (omega arith) refl in
+            lastly S r₂ (omega arith) (omega arith)
+            (ih (while nd a c) Γ K p w₂ b₂ r placed (fits-part w₂ _ fits (d₂ .same ∙ d₁ .same) (omega arith)) (omega arith))
+            (λ u₃ w₃ b₃ s₃ d₃. (
+              s₁ + 1 + s₂ + 1 + s₃,
+              record {
+                reach = then S r₂ (d₃ .reach);
+                most = omega arith;
+                least = omega arith;
+                same = d₃ .same ∙ (d₂ .same ∙ d₁ .same);
+                inside = tt;
+              },
+            )))
         go jf body jump (Truth false) w₁ b₁ s₁ d₁ =
             is-done S (s₁ + 1) (record { reach = also S _ nd (d₁ .reach) jf (omega arith) refl; most = omega arith; least = omega arith; same = d₁ .same; inside = tt })
 
@@ -137,39 +145,37 @@ module _ (S : Setup) where
         let qc = part (S .code) commands c (scopeAfter d (Γ .scope)) (behindD d (suc p)) _ (placed .named .1) (qd .1) in
         let K₀ : Waiting = record { values = K .values; used = K .used; dump = frame (Γ .environment) (K .used) (length (w .cells)) ∷ K .dump } in
         let r₀ : Reach S (at S Γ K p w) 1 (at S Γ K₀ (suc p) w) =
-          also S Enter nd (stay S) (placed .stands .0) (omega arith) (noting nd (ports (w .feed) (w .strip) (w .space)) (with-room (length (K .dump)) (S .rules .limit) _ (omega arith))) in
+        also S Enter nd (stay S) (placed .stands .0) (omega arith) (noting nd (ports (w .feed) (w .strip) (w .space)) (with-room (length (K .dump)) (S .rules .limit) _ (omega arith))) in
+        let f₀ : Fits (S .room) (Γ .bindings) K₀ w (suc r) (sizeD d + sizeC c) =
+        record { inside = fits .inside; values = omega arith; used = omega arith; dump = omega arith; cells = omega arith; enough = omega arith } in
         andThen S _ r₀ (omega arith) (omega arith)
-        (simD S g d Γ K₀ (suc p) w b (suc r) (qd .0)
-          (record { inside = fits .inside; values = omega arith; used = omega arith; dump = omega arith; cells = omega arith; enough = omega arith }) hb)
+        (simD S g d Γ K₀ (suc p) w b (suc r) (qd .0) (fits-part w (sizeD d) f₀ refl (omega arith)) hb)
         (λ bs w₁ b₁ s₁ d₁.
-          let Γ₁ : Scene (S .code) = record { scope = scopeAfter d (Γ .scope); bindings = bs; environment = d₁ .environment; corresponds = d₁ .corresponds } in
-          let K₁ : Waiting = record { values = K .values; used = d₁ .used; dump = K₀ .dump } in
-          andThen S _ (then S r₀ (d₁ .reach)) (omega arith) (omega arith)
-          (ih c Γ₁ K₁ (behindD d (suc p)) w₁ b₁ (d₁ .r′) (qc .0)
-            (record { inside = d₁ .inside; values = omega arith; used = d₁ .fewUsed; dump = omega arith; cells = d₁ .fewCells; enough = omega arith }) (omega arith))
-          (λ u w₂ b₂ s₂ d₂.
-            is-done S (1 + s₁ + s₂ + 1) (record {
-              reach = also S Leave nd (then S (then S r₀ (d₁ .reach)) (d₂ .reach)) (qc .1 .0) (omega arith) refl;
-              most = omega arith; least = omega arith; same = length-take (length (w .cells)) (w₂ .cells) ∙ omega arith; inside = tt })))
-
-    procedureCall-case : (nd f : ℕ) (a : Expression) → Claim (procedureCall nd f a)
-    unfolding evalC
-    procedureCall-case nd f a placed fits =
-        let n = placed .named .0 in
-        let q = procedure-at (S .code) _ _ _ _ (resolve (S .code) f (n .0) Procedure (Γ .corresponds) (n .1)) in
-        subst (λ F. Does S aCommand Γ K p (suc (behindE a p)) w (suc b) (suc (sizeE a)) (bind (evalE (S .rules) g a (Γ .bindings) w b) λ v w₁ b₁. asProcedure F λ y t rest. evalC (S .rules) g t (binding y (value v) ∷ rest) w₁ b₁)) (sym (q .is))
-        (calling S g (simE S g) commands aCommand (evalC (S .rules) g) ih Γ K p w b r hb nd f a Procedure n _ _ q (placed .named .1) (placed .stands) fits)
+        andThen S _ (then S r₀ (d₁ .reach)) (omega arith) (omega arith)
+        (ih c (sceneAfter S d₁) (waitingAfter S d₁) (behindD d (suc p)) w₁ b₁ (d₁ .r′) (qc .0) (fits-after S d₁ (sizeC c) _ f₀ (omega arith)) (omega arith))
+        (λ u w₂ b₂ s₂ d₂.
+        is-done S (1 + s₁ + s₂ + 1) (record {
+          reach = also S Leave nd (then S (then S r₀ (d₁ .reach)) (d₂ .reach)) (qc .1 .0) (omega arith) refl;
+          most = omega arith;
+          least = omega arith;
+          same = length-take (length (w .cells)) (w₂ .cells) ∙ omega arith;
+          inside = tt;
+        })))
 
   next : (g : ℕ) → SimC S g → SimC S (suc g)
   unfolding evalC
   next g ih t Γ K p w zero r placed fits hb = is-cut S (omega arith)
   next g ih (assign nd a c) Γ K p w (suc b) r placed fits hb = assign-case g ih Γ K p w b r (omega arith) nd a c placed fits
   next g ih (output nd a) Γ K p w (suc b) r placed fits hb = output-case g ih Γ K p w b r (omega arith) nd a placed fits
-  next g ih (when nd a c d) Γ K p w (suc b) r placed fits hb = choosing S g (simE S g) commands aCommand (evalC (S .rules) g) ih Γ K p w b r (omega arith) nd a c d (placed .named) (placed .stands) fits
+  next g ih (when nd a c d) Γ K p w (suc b) r placed fits hb =
+      choosing S g (simE S g) commands aCommand (evalC (S .rules) g) ih Γ K p w b r (omega arith) nd a c d (placed .named) (placed .stands) fits
   next g ih (while nd a c) Γ K p w (suc b) r placed fits hb = while-case g ih Γ K p w b r (omega arith) nd a c placed fits
   next g ih (block nd d c) Γ K p w (suc b) r placed fits hb = block-case g ih Γ K p w b r (omega arith) nd d c placed fits
   next g ih (sequence nd a c) Γ K p w (suc b) r placed fits hb = sequence-case g ih Γ K p w b r (omega arith) nd a c placed fits
-  next g ih (procedureCall nd f a) Γ K p w (suc b) r placed fits hb = procedureCall-case g ih Γ K p w b r (omega arith) nd f a placed fits
+  next g ih (procedureCall nd f a) Γ K p w (suc b) r placed fits hb =
+      let n = placed .named .0 in
+      calling S g (simE S g) commands aCommand (evalC (S .rules) g) ih Γ K p w b r (omega arith) asProcedure procedureBody (λ y t rest next. refl) nd f a Procedure n _
+      (procedure-at (S .code) _ _ _ _ (resolve (S .code) f (n .0) Procedure (Γ .corresponds) (n .1))) (placed .named .1) (placed .stands) fits
 
   pub simC : (g : ℕ) → SimC S g
   unfolding evalC

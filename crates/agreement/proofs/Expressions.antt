@@ -1,15 +1,13 @@
--- The simulation of expressions, a lemma for each form, by induction on the depth.
+-- The simulation of expressions: a lemma for each form that has one of its own, and then the induction on the depth. The invariant is
+-- that of Scene, the statement that of Simulation.
 use mathlib.Core.Path.{_≡_, refl, sym, _∙_, ap, subst}
 use mathlib.Core.List.{List, [], _∷_}
-use mathlib.Core.Bool.{Bool, true, false}
-use Prim.Native.Nat.{ℕ, zero, suc, _+_, _*_, _≤_, _<_}
+use Prim.Native.Nat.{ℕ, zero, suc, _+_, _*_, _≤_}
 use native.Mathlib.Omega.{arith}
-use lib.IntN.{ℤ}
-use lib.ListN.{length, drop}
-use Rattle.std.specs.declared.option.Option.the-variants.{Some, None}
+use lib.ListN.{length}
 use Rattle.std.specs.declared.result.Result.the-variants.{Ok, Err}
 use Rattle.vocabulary.specs.declared.code.Instruction.{Instruction}
-use Rattle.vocabulary.specs.declared.code.Instruction.the-variants.{Num, Truth as TruthWord, Read, Look, Op, Call}
+use Rattle.vocabulary.specs.declared.code.Instruction.the-variants.{Num, Truth as TruthWord, Read, Look, Op}
 use Rattle.vocabulary.specs.declared.code.Operation.{Operation}
 use Rattle.vocabulary.specs.declared.end.End.the-variants.{Empty}
 use Rattle.vocabulary.specs.declared.item.Item.{Item}
@@ -19,20 +17,15 @@ use Rattle.vocabulary.specs.declared.value.Plain.the-variants.{Number, Truth}
 use Rattle.vocabulary.specs.declared.value.Value.{Value}
 use Rattle.vocabulary.specs.declared.value.Value.the-variants.{Plain as plain}
 use Rattle.vocabulary.specs.Numbers.{Answer}
-use Rattle.vocabulary.specs.Tables.{found}
 use Rattle.vocabulary.specs.World.{World, withFeed}
-use Rattle.language.specs.declared.name.Entry.{Entry}
 use Rattle.language.specs.declared.name.Role.the-variants.{Value as valueRole, Function}
 use Rattle.language.specs.Tree.{Expression, sizeE}
 use Rattle.language.specs.Tree.Expression.{number, truth, read, name, operation, functionCall, choice}
 use Rattle.language.specs.Translation.{behindE, plainEnd}
-use Rattle.language.specs.Outcomes.{Denoted, Binding, bind, find, valued, asFunction, taken, answered}
-use Rattle.language.specs.Outcomes.Binding.{binding}
-use Rattle.language.specs.Outcomes.Denoted.{value, procedureBody, functionBody}
-use Rattle.language.specs.Outcomes.Found.{named}
+use Rattle.language.specs.Outcomes.{find, valued, asFunction, taken, answered}
+use Rattle.language.specs.Outcomes.Denoted.{functionBody}
 use Rattle.language.specs.Outcomes.Outcome.{done}
 use Rattle.language.specs.Meaning.{evalE}
-use Rattle.machine.specs.declared.tables.Bound.{Bound}
 use Rattle.machine.specs.State.{Config, config, ahead, sides, ports, noted, fedIn}
 use Rattle.machine.specs.State.Moved.{moved}
 use Rattle.machine.specs.State.State.{halted}
@@ -40,10 +33,10 @@ use Rattle.machine.specs.Instructions.{push, read as readItem, look, answer}
 use Rattle.machine.specs.Machine.{exec}
 use Rattle.agreement.proofs.Steps.{Setup, Is, Reach, stay, then, also}
 use Rattle.agreement.proofs.Placed.{expressions, plains, Placed, part, operand-is}
-use Rattle.agreement.proofs.Scene.{Match, roleOf, Corresponds, Scene, Waiting, on, Inside, DenotesInside, AllInside, weight, bodies, Fits, fits-part, fits-on}
+use Rattle.agreement.proofs.Scene.{Scene, Waiting, on, Inside, Fits, fits-part, fits-on}
 use Rattle.agreement.proofs.Lookup.{resolve, value-at, function-at}
 use Rattle.agreement.proofs.Instructions.{noting, push-with-room}
-use Rattle.agreement.proofs.Simulation.{aValue, is-done, is-ended, is-cut, andThen, at, Done, Does, SimE}
+use Rattle.agreement.proofs.Simulation.{aValue, is-done, is-ended, is-cut, andThen, at, Does, SimE}
 use Rattle.agreement.proofs.Shared.{a-node-at-least, simPlain, choosing, calling}
 
 module _ (S : Setup) where
@@ -56,18 +49,22 @@ module _ (S : Setup) where
         exec (S .rules) i nd here ≡ noted nd (moved (push (S .rules .limit) v (ahead here)) (ports f (w .strip) (w .space))) →
         Does S aValue Γ K p (suc p) w (suc b) 1 (done v (withFeed w f) b)
     pushes i nd v f fits is inside e = is-done S 1 (record {
-        reach = also S i nd (stay S) is (omega arith) (e ∙ noting nd (ports f (w .strip) (w .space)) (push-with-room (S .rules .limit) v (ahead here) (omega arith)));
-        most = omega arith; least = omega arith; same = refl; inside = inside })
+      reach = also S i nd (stay S) is (omega arith) (e ∙ noting nd (ports f (w .strip) (w .space)) (push-with-room (S .rules .limit) v (ahead here) (omega arith)));
+      most = omega arith;
+      least = omega arith;
+      same = refl;
+      inside = inside;
+    })
+
+    reads : (nd : ℕ) (f : List Item) → w .feed ≡ f → exec (S .rules) Read nd here ≡ noted nd (fedIn (readItem (S .rules .limit) f (ahead here)) (sides here))
+    reads nd f e = ap (λ l. noted nd (fedIn (readItem (S .rules .limit) l (ahead here)) (sides here))) e
 
     read-case : (nd : ℕ) (f : List Item) → w .feed ≡ f → Fits (S .room) (Γ .bindings) K w r 1 → Is (S .code) p Read nd →
         Does S aValue Γ K p (suc p) w (suc b) 1 (taken nd f w b)
-    read-case nd f e fits is = go f e (ap (λ l. noted nd (fedIn (readItem (S .rules .limit) l (ahead here)) (sides here))) e)
-      where
-        go : (f : List Item) → w .feed ≡ f → exec (S .rules) Read nd here ≡ noted nd (fedIn (readItem (S .rules .limit) f (ahead here)) (sides here)) →
-            Does S aValue Γ K p (suc p) w (suc b) 1 (taken nd f w b)
-        go [] e x = is-ended S 1 (also S Read nd (stay S) is (omega arith) (x ∙ ap (λ l. halted Empty nd (withFeed w l)) (sym e))) (omega arith)
-        go (Reading z ∷ f) e x = pushes Read nd (plain (Number z)) f fits is tt x
-        go (Fault j ∷ f) e x = is-ended S 1 (also S Read nd (stay S) is (omega arith) x) (omega arith)
+    read-case nd [] e fits is =
+        is-ended S 1 (also S Read nd (stay S) is (omega arith) (reads nd [] e ∙ ap (λ l. halted Empty nd (withFeed w l)) (sym e))) (omega arith)
+    read-case nd (Reading z ∷ f) e fits is = pushes Read nd (plain (Number z)) f fits is tt (reads nd _ e)
+    read-case nd (Fault j ∷ f) e fits is = is-ended S 1 (also S Read nd (stay S) is (omega arith) (reads nd _ e)) (omega arith)
 
     name-case : (nd x : ℕ) → Fits (S .room) (Γ .bindings) K w r 1 → Placed expressions (S .code) (name nd x) (Γ .scope) p →
         Does S aValue Γ K p (suc p) w (suc b) 1 (valued (find (Γ .bindings) x) w b)
@@ -76,12 +73,15 @@ module _ (S : Setup) where
         let q = value-at (S .code) _ _ _ _ (resolve (S .code) x (n .0) valueRole (Γ .corresponds) (n .1)) in
         subst (λ f. Does S aValue Γ K p (suc p) w (suc b) 1 (valued f w b)) (sym (q .is))
         (pushes (Look (n .0)) nd (q .value) (w .feed) fits (operand-is (S .code) Look p nd (Γ .scope) x valueRole n (placed .stands .0)) (q .inside _ (fits .inside))
-          (noting nd (sides here) (ap (λ o. look (S .rules .limit) o (ahead here)) (q .slot))))
+        (noting nd (sides here) (ap (λ o. look (S .rules .limit) o (ahead here)) (q .slot))))
 
   module _ (g : ℕ) (ih : SimE S g) (Γ : Scene (S .code)) (K : Waiting) (p : ℕ) (w : World) (b r : ℕ) (hb : b ≤ g) where
-    operation-case : (nd : ℕ) (o : Operation) (a c : Expression) → Placed expressions (S .code) (operation nd o a c) (Γ .scope) p →
-        Fits (S .room) (Γ .bindings) K w r (sizeE (operation nd o a c)) →
-        Does S aValue Γ K p (behindE (operation nd o a c) p) w (suc b) (sizeE (operation nd o a c)) (evalE (S .rules) (suc g) (operation nd o a c) (Γ .bindings) w (suc b))
+    -- the expression t, begun with one visit more than b
+    abbrev Claim : Expression → Type 0
+    Claim t = Placed expressions (S .code) t (Γ .scope) p → Fits (S .room) (Γ .bindings) K w r (sizeE t) →
+        Does S aValue Γ K p (behindE t p) w (suc b) (sizeE t) (evalE (S .rules) (suc g) t (Γ .bindings) w (suc b))
+
+    operation-case : (nd : ℕ) (o : Operation) (a c : Expression) → Claim (operation nd o a c)
     unfolding evalE
     operation-case nd o a c placed fits =
         let p₁ = plainEnd a (behindE a p) in
@@ -91,10 +91,10 @@ module _ (S : Setup) where
         andThen S _ (stay S) (omega arith) (omega arith)
         (simPlain S g ih a Γ K p w b r (qa .0) (fits-part w (sizeE a) fits refl (omega arith)) hb)
         (λ x w₁ b₁ s₁ d₁.
-          andThen S _ (d₁ .reach) (omega arith) (omega arith)
-          (simPlain S g ih c Γ (on (plain x) K) p₁ w₁ b₁ (suc r) (qc .0) (fits-on w₁ (sizeE c) (plain x) fits (d₁ .same) (omega arith)) (omega arith))
-          (λ y w₂ b₂ s₂ d₂. result x y (S .rules .operate o (plain x) (plain y)) w₂ b₂ (s₁ + s₂ + 1)
-            (also S (Op o) nd (then S (d₁ .reach) (d₂ .reach)) (qc .1 .0) (omega arith) refl) (omega arith) (omega arith) (d₂ .same ∙ d₁ .same)))
+        andThen S _ (d₁ .reach) (omega arith) (omega arith)
+        (simPlain S g ih c Γ (on (plain x) K) p₁ w₁ b₁ (suc r) (qc .0) (fits-on w₁ (sizeE c) (plain x) fits (d₁ .same) (omega arith)) (omega arith))
+        (λ y w₂ b₂ s₂ d₂. result x y (S .rules .operate o (plain x) (plain y)) w₂ b₂ (s₁ + s₂ + 1)
+        (also S (Op o) nd (then S (d₁ .reach) (d₂ .reach)) (qc .1 .0) (omega arith) refl) (omega arith) (omega arith) (d₂ .same ∙ d₁ .same)))
       where
         result : (x y : Plain) (α : Answer) (w₂ : World) (b₂ s : ℕ) →
             Reach S (at S Γ K p w) s (noted nd (moved (answer α (K .values) (ahead (config (plainEnd c (behindE c (plainEnd a (behindE a p)))) (plain y ∷ plain x ∷ K .values) (Γ .environment) (K .used) (K .dump) w₂))) (ports (w₂ .feed) (w₂ .strip) (w₂ .space)))) →
@@ -102,16 +102,6 @@ module _ (S : Setup) where
             Does S aValue Γ K p (behindE (operation nd o a c) p) w (suc b) (sizeE (operation nd o a c)) (answered nd α w₂ b₂)
         result x y (Ok q) w₂ b₂ s re most least e = is-done S s (record { reach = re; most = most; least = least; same = e; inside = tt })
         result x y (Err n) w₂ b₂ s re most least e = is-ended S s re (omega arith)
-
-    functionCall-case : (nd f : ℕ) (a : Expression) → Placed expressions (S .code) (functionCall nd f a) (Γ .scope) p →
-        Fits (S .room) (Γ .bindings) K w r (sizeE (functionCall nd f a)) →
-        Does S aValue Γ K p (behindE (functionCall nd f a) p) w (suc b) (sizeE (functionCall nd f a)) (evalE (S .rules) (suc g) (functionCall nd f a) (Γ .bindings) w (suc b))
-    unfolding evalE
-    functionCall-case nd f a placed fits =
-        let n = placed .named .0 in
-        let q = function-at (S .code) _ _ _ _ (resolve (S .code) f (n .0) Function (Γ .corresponds) (n .1)) in
-        subst (λ F. Does S aValue Γ K p (suc (behindE a p)) w (suc b) (suc (sizeE a)) (bind (evalE (S .rules) g a (Γ .bindings) w b) λ v w₁ b₁. asFunction F λ y t rest. evalE (S .rules) g t (binding y (value v) ∷ rest) w₁ b₁)) (sym (q .is))
-        (calling S g ih expressions aValue (evalE (S .rules) g) ih Γ K p w b r hb nd f a Function n _ _ q (placed .named .1) (placed .stands) fits)
 
   next : (g : ℕ) → SimE S g → SimE S (suc g)
   unfolding evalE
@@ -121,8 +111,12 @@ module _ (S : Setup) where
   next g ih (read nd) Γ K p w (suc b) r placed fits hb = read-case Γ K p w b r nd (w .feed) refl fits (placed .stands .0)
   next g ih (name nd x) Γ K p w (suc b) r placed fits hb = name-case Γ K p w b r nd x fits placed
   next g ih (operation nd o a c) Γ K p w (suc b) r placed fits hb = operation-case g ih Γ K p w b r (omega arith) nd o a c placed fits
-  next g ih (functionCall nd f a) Γ K p w (suc b) r placed fits hb = functionCall-case g ih Γ K p w b r (omega arith) nd f a placed fits
-  next g ih (choice nd a c d) Γ K p w (suc b) r placed fits hb = choosing S g ih expressions aValue (evalE (S .rules) g) ih Γ K p w b r (omega arith) nd a c d (placed .named) (placed .stands) fits
+  next g ih (functionCall nd f a) Γ K p w (suc b) r placed fits hb =
+      let n = placed .named .0 in
+      calling S g ih expressions aValue (evalE (S .rules) g) ih Γ K p w b r (omega arith) asFunction functionBody (λ y t rest next. refl) nd f a Function n _
+      (function-at (S .code) _ _ _ _ (resolve (S .code) f (n .0) Function (Γ .corresponds) (n .1))) (placed .named .1) (placed .stands) fits
+  next g ih (choice nd a c d) Γ K p w (suc b) r placed fits hb =
+      choosing S g ih expressions aValue (evalE (S .rules) g) ih Γ K p w b r (omega arith) nd a c d (placed .named) (placed .stands) fits
 
   pub simE : (g : ℕ) → SimE S g
   unfolding evalE

@@ -1,10 +1,10 @@
--- A step takes from the front of the feed and adds to the end of the strip, and does nothing else to them.
-use mathlib.Core.Path.{_≡_, refl, sym, _∙_, ap, subst}
+-- A step takes from the front of the feed and adds to the end of the strip, and does nothing else to them: instruction by instruction,
+-- of which only READ and PUT touch them at all. So what a run has done is the first part of what a longer run does.
+use mathlib.Core.Path.{_≡_, refl, sym, _∙_, ap}
 use mathlib.Core.List.{List, [], _∷_, _++_, append-assoc, append-nil}
 use mathlib.Core.Bool.{Bool, true, false}
 use Prim.Native.Nat.{ℕ, zero, suc}
 use lib.Dec.{leb}
-use lib.ListN.{length}
 use Rattle.std.specs.declared.option.Option.{Option}
 use Rattle.std.specs.declared.option.Option.the-variants.{Some, None}
 use Rattle.vocabulary.specs.declared.code.Instruction.{Instruction}
@@ -16,13 +16,13 @@ use Rattle.vocabulary.specs.declared.value.Plain.{Plain}
 use Rattle.vocabulary.specs.declared.value.Value.{Value}
 use Rattle.vocabulary.specs.declared.value.Value.the-variants.{Plain as plain, Location}
 use Rattle.vocabulary.specs.Tables.{found}
-use Rattle.vocabulary.specs.World.{World, Rules, withCells, withFeed, hasRoom, afterPut}
-use Rattle.machine.specs.State.{Config, Core, Ports, ports, State, Turn, Moved, noted, fedIn, spentIn, ahead, sides}
+use Rattle.vocabulary.specs.World.{World, Rules, withFeed}
+use Rattle.machine.specs.State.{Config, Core, ports, State, Turn, noted, fedIn, spentIn, ahead}
 use Rattle.machine.specs.State.Moved.{moved}
 use Rattle.machine.specs.State.State.{running, halted, broken}
 use Rattle.machine.specs.State.Turn.{goes, ends, stuck}
 use Rattle.machine.specs.Instructions.{takeItem, read, put, putIf}
-use Rattle.machine.specs.Machine.{perform, exec, obey, step, iterate}
+use Rattle.machine.specs.Machine.{exec, obey, step, iterate}
 use Rattle.agreement.specs.Agreement.{Did, FirstPart}
 
 -- some items were taken and some values put
@@ -37,10 +37,16 @@ grew-nothing w = record { items = []; values = []; did = record { fed = refl; he
 -- what was done in two stretches
 pub grew-first-part : (u v w : World) → Grew u v → Grew v w → FirstPart u v w
 grew-first-part u v w f g = record {
-    items = f .items; values = f .values; moreItems = g .items; moreValues = g .values; part = f .did;
-    whole = record {
-      fed = f .did .fed ∙ (ap (λ l. f .items ++ l) (g .did .fed) ∙ sym (append-assoc (f .items) (g .items) (w .feed)));
-      held = g .did .held ∙ (ap (λ l. l ++ g .values) (f .did .held) ∙ append-assoc (u .strip) (f .values) (g .values)) } }
+  items = f .items;
+  values = f .values;
+  moreItems = g .items;
+  moreValues = g .values;
+  part = f .did;
+  whole = record {
+    fed = f .did .fed ∙ (ap (λ l. f .items ++ l) (g .did .fed) ∙ sym (append-assoc (f .items) (g .items) (w .feed)));
+    held = g .did .held ∙ (ap (λ l. l ++ g .values) (f .did .held) ∙ append-assoc (u .strip) (f .values) (g .values));
+  };
+}
 
 grew-both : (u v w : World) → Grew u v → Grew v w → Grew u w
 grew-both u v w f g = let p = grew-first-part u v w f g in record { items = _; values = _; did = p .whole }

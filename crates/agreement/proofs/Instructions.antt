@@ -1,12 +1,12 @@
--- What an instruction does where its table has room; and that a place among the cells holds a value.
-use mathlib.Core.Path.{_≡_, refl, sym, _∙_, ap}
+-- What an instruction does where its table has room, and that a place among the cells holds a value. These are the only proofs that
+-- look into the instructions that can find a table full.
+use mathlib.Core.Path.{_≡_, refl, _∙_, ap}
 use mathlib.Core.List.{List, [], _∷_}
 use mathlib.Core.Bool.{Bool, true, false}
 use Prim.Native.Nat.{ℕ, zero, suc, _<_}
 use native.Mathlib.Nat.{not-suc-le-zero, le-of-suc-le-suc}
 use lib.Dec.{T, ltb, lt→ltb}
 use lib.ListN.{length, drop}
-use Rattle.std.specs.declared.option.Option.{Option}
 use Rattle.std.specs.declared.option.Option.the-variants.{Some}
 use Rattle.vocabulary.specs.declared.value.Value.{Value}
 use Rattle.vocabulary.specs.Tables.{found}
@@ -39,7 +39,7 @@ bind-with-room limit e k h = with-room (k .bindings) limit _ h
 -- CALL of a body at position p, with room on the dump and for the argument
 pub call-with-room : (limit : ℕ) (v : Value) (d p : ℕ) (k : Core) → found (k .environment) d ≡ Some (Body p) → length (k .dump) < limit → k .bindings < limit →
     invoke limit v (found (k .environment) d) d k ≡ goes (core p (k .values) (Holds v ∷ drop (suc d) (k .environment)) (suc (k .bindings))
-        (frame (k .environment) (k .bindings) (k .position) ∷ k .dump) (k .cells))
+    (frame (k .environment) (k .bindings) (k .position) ∷ k .dump) (k .cells))
 call-with-room limit v d p k e hd hb =
     ap (λ o. invoke limit v o d k) e ∙ (with-room (length (k .dump)) limit _ hd ∙ with-room (k .bindings) limit _ hb)
 

@@ -1,8 +1,9 @@
--- A name that is visible in the scope: what the source finds for it and what stands at its place in the machine's environment match.
-use mathlib.Core.Path.{_≡_, refl, sym, _∙_, ap, subst}
-use mathlib.Core.List.{List, [], _∷_}
+-- A name that is visible in the scope: what the source finds for it and what stands at its place in the machine's environment match,
+-- by induction on the three lists that go in step. A name in the role of a value has a value, in that of a routine a body of its sort.
+use mathlib.Core.Path.{_≡_, refl, _∙_, ap, subst}
+use mathlib.Core.List.{List, _∷_}
 use mathlib.Core.Bool.{Bool, true, false}
-use Prim.Native.Nat.{ℕ, zero, suc, _+_, _≤_}
+use Prim.Native.Nat.{ℕ, suc, _+_, _≤_}
 use native.Mathlib.Omega.{arith}
 use lib.Dec.{eqb}
 use lib.ListN.{drop}
@@ -19,7 +20,7 @@ use Rattle.language.specs.Scope.{place, later, placeOf, scopeInside}
 use Rattle.language.specs.Outcomes.{Denoted, Binding, Found, find}
 use Rattle.language.specs.Outcomes.Binding.{binding}
 use Rattle.language.specs.Outcomes.Denoted.{value as denotes, procedureBody, functionBody}
-use Rattle.language.specs.Outcomes.Found.{named, unnamed}
+use Rattle.language.specs.Outcomes.Found.{named}
 use Rattle.machine.specs.declared.tables.Bound.{Bound}
 use Rattle.machine.specs.declared.tables.Bound.the-variants.{Holds}
 use Rattle.agreement.proofs.Placed.{Sort, expressions, commands}
@@ -67,8 +68,18 @@ resolve prog x d r (more {sc = sc} {bs = bs} {m = m} y th b h o) e =
         let q = rec (l .0) (l .1) in
         subst (λ k. Resolved prog (binding y th ∷ bs) (b ∷ m) k r (find bs x)) (l .2)
         (record {
-          denoted = q .denoted; rest = q .rest; scope = q .scope; bound = q .bound; is = q .is; role = q .role; slot = q .slot; match = q .match;
-          behind = q .behind; fewer = omega arith; inside = λ n g. q .inside n (g .1) })
+          denoted = q .denoted;
+          rest = q .rest;
+          scope = q .scope;
+          bound = q .bound;
+          is = q .is;
+          role = q .role;
+          slot = q .slot;
+          match = q .match;
+          behind = q .behind;
+          fewer = omega arith;
+          inside = λ n g. q .inside n (g .1);
+        })
 
 module _ (prog : List Word) (bs : List Binding) (m : List Bound) (d : ℕ) (f : Found) where
   -- a name that has to denote a value, and does
@@ -101,22 +112,39 @@ module _ (prog : List Word) (bs : List Binding) (m : List Bound) (d : ℕ) (f : 
       go (procedureBody y t) is role match inside = let z : _≡_ {A = ℕ} 0 1 = cc in absurd (omega arith)
       go (functionBody y t) is role match inside = let z : _≡_ {A = ℕ} 0 1 = cc in absurd (omega arith)
 
+  -- what is denoted in the role of a routine is a body of its sort
+  abbrev Body-of : {T : Type 0} → Sort T → (ℕ → T → Denoted) → Role → Type 0
+  Body-of {T} σ routine role = (sc : List Entry) (bound : Bound) (th : Denoted) → roleOf th ≡ role → Match prog sc th bound →
+      (y : ℕ) × (t : T) × (th ≡ routine y t) × (weight th ≡ σ .size t) × BodyAt σ prog t (scopeInside y sc) bound
+
+  routine-at : {T : Type 0} (σ : Sort T) (routine : ℕ → T → Denoted) (role : Role) → Body-of σ routine role → Resolved prog bs m d role f → RoutineAt σ routine
+  routine-at σ routine role body-of q =
+      let x = body-of (q .scope) (q .bound) (q .denoted) (q .role) (q .match) in let e = x .3 in let fewer = q .fewer in record {
+        parameter = x .0;
+        tree = x .1;
+        rest = q .rest;
+        scope = q .scope;
+        bound = q .bound;
+        is = q .is ∙ ap (λ th. named th (q .rest)) (x .2);
+        slot = q .slot;
+        body = x .4;
+        behind = q .behind;
+        fewer = omega arith;
+        inside = λ n g. q .inside n g .1;
+      }
+
   pub procedure-at : Resolved prog bs m d Procedure f → RoutineAt commands procedureBody
-  procedure-at q = go (q .denoted) (q .is) (q .role) (q .match) (q .fewer)
+  procedure-at q = routine-at commands procedureBody Procedure body-of q
     where
-      go : (th : Denoted) → f ≡ named th (q .rest) → roleOf th ≡ Procedure → Match prog (q .scope) th (q .bound) → weight th + bodies (q .rest) ≤ bodies bs → RoutineAt commands procedureBody
-      go (denotes v) is role match fewer = let z : _≡_ {A = ℕ} 0 1 = cc in absurd (omega arith)
-      go (functionBody y t) is role match fewer = let z : _≡_ {A = ℕ} 0 1 = cc in absurd (omega arith)
-      go (procedureBody y t) is role match fewer = record {
-          parameter = y; tree = t; rest = q .rest; scope = q .scope; bound = q .bound; is = is; slot = q .slot; body = match;
-          behind = q .behind; fewer = fewer; inside = λ n g. q .inside n g .1 }
+      body-of : Body-of commands procedureBody Procedure
+      body-of sc bound (denotes v) role match = let z : _≡_ {A = ℕ} 0 1 = cc in absurd (omega arith)
+      body-of sc bound (procedureBody y t) role match = (y, t, refl, refl, match)
+      body-of sc bound (functionBody y t) role match = let z : _≡_ {A = ℕ} 0 1 = cc in absurd (omega arith)
 
   pub function-at : Resolved prog bs m d Function f → RoutineAt expressions functionBody
-  function-at q = go (q .denoted) (q .is) (q .role) (q .match) (q .fewer)
+  function-at q = routine-at expressions functionBody Function body-of q
     where
-      go : (th : Denoted) → f ≡ named th (q .rest) → roleOf th ≡ Function → Match prog (q .scope) th (q .bound) → weight th + bodies (q .rest) ≤ bodies bs → RoutineAt expressions functionBody
-      go (denotes v) is role match fewer = let z : _≡_ {A = ℕ} 0 1 = cc in absurd (omega arith)
-      go (procedureBody y t) is role match fewer = let z : _≡_ {A = ℕ} 0 1 = cc in absurd (omega arith)
-      go (functionBody y t) is role match fewer = record {
-          parameter = y; tree = t; rest = q .rest; scope = q .scope; bound = q .bound; is = is; slot = q .slot; body = match;
-          behind = q .behind; fewer = fewer; inside = λ n g. q .inside n g .1 }
+      body-of : Body-of expressions functionBody Function
+      body-of sc bound (denotes v) role match = let z : _≡_ {A = ℕ} 0 1 = cc in absurd (omega arith)
+      body-of sc bound (procedureBody y t) role match = let z : _≡_ {A = ℕ} 0 1 = cc in absurd (omega arith)
+      body-of sc bound (functionBody y t) role match = (y, t, refl, refl, match)

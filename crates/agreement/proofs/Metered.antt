@@ -5,10 +5,10 @@
 --   neither leaves more visits than it is granted;
 --   with b ≤ B visits m comes to the same as m′ with b + j visits, but that j more are left; where m is cut, m′ leaves fewer than j.
 -- Every construct of the evaluator keeps this, so that the proof has the evaluator's shape, a line for each form.
-use mathlib.Core.Path.{_≡_, refl, sym, _∙_, ap, subst}
+use mathlib.Core.Path.{_≡_, refl, sym, ap, subst}
 use mathlib.Core.List.{List, [], _∷_}
 use mathlib.Core.Bool.{Bool, true, false}
-use Prim.Native.Nat.{ℕ, zero, suc, _+_, _-_, _≤_, _<_}
+use Prim.Native.Nat.{ℕ, zero, suc, _+_, _≤_, _<_}
 use native.Mathlib.Nat.{zero-add, suc-add}
 use native.Mathlib.Omega.{arith}
 use Rattle.std.specs.declared.option.Option.{Option}
@@ -25,7 +25,7 @@ use Rattle.vocabulary.specs.Numbers.{Answer}
 use Rattle.vocabulary.specs.Tables.{found}
 use Rattle.vocabulary.specs.World.{World, Rules}
 use Rattle.language.specs.Tree.{Expression, Command}
-use Rattle.language.specs.Outcomes.{Denoted, Binding, Outcome, Found, bind, deref, orLost, plainly, taken, answered, valued, tested, located, putting, asFunction, asProcedure}
+use Rattle.language.specs.Outcomes.{Binding, Outcome, Found, bind, deref, orLost, plainly, taken, answered, valued, tested, located, putting, asFunction, asProcedure}
 use Rattle.language.specs.Outcomes.Denoted.{value, procedureBody, functionBody}
 use Rattle.language.specs.Outcomes.Found.{named, unnamed}
 use Rattle.language.specs.Outcomes.Outcome.{done, ended, cut, lost}
@@ -75,9 +75,10 @@ module _ {A : Type 0} {B : ℕ} where
 pub binds : {A C : Type 0} {B : ℕ} {m m′ : ℕ → Outcome A} {k k′ : A → World → ℕ → Outcome C} → Metered B m m′ → ((a : A) (w : World) → Metered B (k a w) (k′ a w)) →
     Metered B (λ b. bind (m b) (k)) (λ b. bind (m′ b) (k′))
 binds {B = B} {m} {m′} {k} {k′} p q = record {
-    low = λ b. left-bind (λ c. c ≤ b) (m b) k (p .low b) (λ a w c h. left-weaken (λ d. d ≤ c) (λ d. d ≤ b) (k a w c) (λ d l. omega arith) (q a w .low c));
-    low′ = λ b. left-bind (λ c. c ≤ b) (m′ b) k′ (p .low′ b) (λ a w c h. left-weaken (λ d. d ≤ c) (λ d. d ≤ b) (k′ a w c) (λ d l. omega arith) (q a w .low′ c));
-    longer = λ b j h. go b j h (m b) (m′ (b + j)) (p .low b) (p .longer b j h) }
+  low = λ b. left-bind (λ c. c ≤ b) (m b) k (p .low b) (λ a w c h. left-weaken (λ d. d ≤ c) (λ d. d ≤ b) (k a w c) (λ d l. omega arith) (q a w .low c));
+  low′ = λ b. left-bind (λ c. c ≤ b) (m′ b) k′ (p .low′ b) (λ a w c h. left-weaken (λ d. d ≤ c) (λ d. d ≤ b) (k′ a w c) (λ d l. omega arith) (q a w .low′ c));
+  longer = λ b j h. go b j h (m b) (m′ (b + j)) (p .low b) (p .longer b j h);
+}
   where
     go : (b j : ℕ) → b ≤ B → (o o′ : Outcome _) → Left (λ c. c ≤ b) o → Longer j o o′ → Longer j (bind o k) (bind o′ k′)
     go b j h (done a w c) o′ l x = subst (λ z. Longer j (k a w c) (bind z k′)) (sym x) (q a w .longer c j (omega arith))
@@ -151,32 +152,41 @@ visits {A} {B} {n} {n′} {w} e e′ p = record { low = below n e (p .low); low�
     below : (m : ℕ → Outcome A) → m 0 ≡ cut w → ((b : ℕ) → Left (λ c. c ≤ b) (m (suc b))) → (b : ℕ) → Left (λ c. c ≤ b) (m b)
     below m f l zero = subst (Left (λ c. c ≤ 0)) (sym f) tt
     below m f l (suc b) = left-weaken (λ c. c ≤ b) (λ c. c ≤ suc b) (m (suc b)) (λ c h. omega arith) (l b)
+
     fewer : (j : ℕ) → Left (λ c. c < j) (n′ j)
     fewer zero = subst (Left (λ c. c < 0)) (sym e′) tt
     fewer (suc j) = left-weaken (λ c. c ≤ j) (λ c. c < suc j) (n′ (suc j)) (λ c h. omega arith) (p .low′ j)
+
     longer : (b j : ℕ) → b ≤ suc B → Longer j (n b) (n′ (b + j))
     longer zero j h = subst (λ i. Longer j (n 0) (n′ i)) (sym (zero-add j)) (subst (λ o. Longer j o (n′ j)) (sym e) (fewer j))
     longer (suc b) j h = subst (λ i. Longer j (n (suc b)) (n′ i)) (sym (suc-add b j)) (p .longer b j (omega arith))
 
--- an evaluator of any sort of tree, from what it does once a node has begun
+-- an evaluator of any sort of tree at depths g and h; and what it does once a node has begun
+abbrev pub Meters : {T A : Type 0} → (ℕ → T → List Binding → World → ℕ → Outcome A) → ℕ → ℕ → Type 0
+Meters {T} eval g h = (t : T) (bs : List Binding) (w : World) → Metered g (eval g t bs w) (eval h t bs w)
+
+abbrev pub Begins : {T A : Type 0} → (ℕ → T → List Binding → World → ℕ → Outcome A) → Type 0
+Begins {T} eval = (g h : ℕ) → g ≤ h → Meters eval g h →
+    (t : T) (bs : List Binding) (w : World) → Metered g (λ b. eval (suc g) t bs w (suc b)) (λ b. eval (suc h) t bs w (suc b))
+
 pub metering : {T A : Type 0} (eval : ℕ → T → List Binding → World → ℕ → Outcome A) →
     ((t : T) (bs : List Binding) (w : World) (b : ℕ) → eval 0 t bs w b ≡ cut w) →
     ((g : ℕ) (t : T) (bs : List Binding) (w : World) → eval (suc g) t bs w 0 ≡ cut w) →
-    ((g h : ℕ) → g ≤ h → ((t : T) (bs : List Binding) (w : World) → Metered g (eval g t bs w) (eval h t bs w)) →
-      (t : T) (bs : List Binding) (w : World) → Metered g (λ b. eval (suc g) t bs w (suc b)) (λ b. eval (suc h) t bs w (suc b))) →
-    (g h : ℕ) → g ≤ h → (t : T) (bs : List Binding) (w : World) → Metered g (eval g t bs w) (eval h t bs w)
+    Begins eval → (g h : ℕ) → g ≤ h → Meters eval g h
 metering eval at-zero no-visit begun zero zero l t bs w =
     record {
       low = λ b. subst (Left (λ c. c ≤ b)) (sym (at-zero t bs w b)) tt;
       low′ = λ b. subst (Left (λ c. c ≤ b)) (sym (at-zero t bs w b)) tt;
-      longer = λ b j h. subst (λ o. Longer j o (eval 0 t bs w (b + j))) (sym (at-zero t bs w b)) (subst (Left (λ c. c < j)) (sym (at-zero t bs w (b + j))) tt) }
+      longer = λ b j h. subst (λ o. Longer j o (eval 0 t bs w (b + j))) (sym (at-zero t bs w b)) (subst (Left (λ c. c < j)) (sym (at-zero t bs w (b + j))) tt);
+    }
 metering eval at-zero no-visit begun zero (suc h) l t bs w =
     let p : Metered 1 (eval 1 t bs w) (eval (suc h) t bs w) = visits (no-visit 0 t bs w) (no-visit h t bs w) (begun 0 h (omega arith) (metering eval at-zero no-visit begun 0 h (omega arith)) t bs w) in
     record {
       low = λ b. subst (Left (λ c. c ≤ b)) (sym (at-zero t bs w b)) tt;
       low′ = p .low′;
       longer = λ b j k. subst (λ o. Longer j o (eval (suc h) t bs w (b + j))) (sym (at-zero t bs w b))
-        (subst (λ i. Left (λ c. c < j) (eval (suc h) t bs w (i + j))) (omega arith) (subst (λ o. Longer j o (eval (suc h) t bs w (0 + j))) (no-visit 0 t bs w) (p .longer 0 j (omega arith)))) }
+          (subst (λ i. Left (λ c. c < j) (eval (suc h) t bs w (i + j))) (omega arith) (subst (λ o. Longer j o (eval (suc h) t bs w (0 + j))) (no-visit 0 t bs w) (p .longer 0 j (omega arith))));
+    }
 metering eval at-zero no-visit begun (suc g) zero l t bs w = absurd (omega arith)
 metering eval at-zero no-visit begun (suc g) (suc h) l t bs w =
     visits (no-visit g t bs w) (no-visit h t bs w) (begun g h (omega arith) (metering eval at-zero no-visit begun g h (omega arith)) t bs w)

@@ -1,6 +1,6 @@
 -- Where the code of a tree stands. `Stands prog p ws`: the words ws stand in prog from position p on. The code of a tree that stands
 -- at p reaches to `behind` of the tree and p, so that what stands from p on can be taken apart into the code of its parts.
-use mathlib.Core.Path.{_≡_, refl, sym, _∙_, ap, subst}
+use mathlib.Core.Path.{_≡_, refl, subst}
 use mathlib.Core.List.{List, [], _∷_, _++_}
 use Prim.Native.Nat.{ℕ, zero, suc}
 use native.Mathlib.Omega.{arith}
@@ -16,9 +16,9 @@ use Rattle.language.specs.Tree.{Expression, Command, Declaration, nodeC, sizeE,
 use Rattle.language.specs.Tree.Expression.{number, truth, read, name, operation, functionCall, choice}
 use Rattle.language.specs.Tree.Command.{assign, output, when, while, block, sequence, procedureCall}
 use Rattle.language.specs.Tree.Declaration.{constant, variable, procedure, function, pair}
-use Rattle.language.specs.Scope.{placeOf, place, newerOf, scopeAfter, scopeInside}
+use Rattle.language.specs.Scope.{placeOf, newerOf, scopeAfter, scopeInside}
 use Rattle.language.specs.Names.{Names, NamedE, NamedC, NamedD}
-use Rattle.language.specs.Translation.{one, plainCode, plainEnd, behindE, behindC, behindD, codeE, codeC, codeD, program}
+use Rattle.language.specs.Translation.{plainCode, plainEnd, behindE, behindC, behindD, codeE, codeC, codeD, program}
 use Rattle.agreement.proofs.Steps.{Is}
 
 abbrev pub Stands : List Word → ℕ → List Word → Type 0
@@ -79,8 +79,12 @@ expressions = record { Named = NamedE; code = codeE; behind = behindE; ends = af
 -- expressions with the code that leaves their plain value
 abbrev pub plains : Sort Expression
 plains = record {
-    Named = NamedE; code = λ t sc p. plainCode t (codeE t sc p); behind = λ t p. plainEnd t (behindE t p);
-    ends = λ t sc p. simp (after-++, after-E t sc p); size = sizeE }
+  Named = NamedE;
+  code = λ t sc p. plainCode t (codeE t sc p);
+  behind = λ t p. plainEnd t (behindE t p);
+  ends = λ t sc p. simp (after-++, after-E t sc p);
+  size = sizeE;
+}
 
 abbrev pub commands : Sort Command
 commands = record { Named = NamedC; code = codeC; behind = behindC; ends = after-C; size = sizeC }

@@ -6,9 +6,9 @@
 --
 -- The three lists go in step. A value is bound to itself; a routine to a position at which the code of its body stands, translated
 -- under the parameter and the scope behind the routine's own entry, with RET behind it.
-use mathlib.Core.Path.{_≡_, refl, sym, _∙_, ap, subst}
+use mathlib.Core.Path.{_≡_}
 use mathlib.Core.List.{List, [], _∷_}
-use Prim.Native.Nat.{ℕ, zero, suc, _+_, _≤_, _<_}
+use Prim.Native.Nat.{ℕ, suc, _+_, _≤_, _<_}
 use native.Mathlib.Omega.{arith}
 use lib.ListN.{length}
 use Rattle.vocabulary.specs.declared.code.Instruction.the-variants.{Ret}
@@ -21,7 +21,6 @@ use Rattle.language.specs.declared.name.Role.{Role}
 use Rattle.language.specs.declared.name.Role.the-variants.{Value as aValue, Procedure, Function}
 use Rattle.language.specs.Tree.{sizeE, sizeC}
 use Rattle.language.specs.Scope.{entry, scopeInside}
-use Rattle.language.specs.Translation.{behindE, behindC}
 use Rattle.language.specs.Outcomes.{Denoted, Binding}
 use Rattle.language.specs.Outcomes.Binding.{binding}
 use Rattle.language.specs.Outcomes.Denoted.{value, procedureBody, functionBody}

@@ -8,9 +8,9 @@
 --   cut     the machine runs with the same world after s steps, and b ≤ 2 × s + h, where h is the number of nodes that can
 --           have begun without a step yet: those of the tree and of the bodies that it can call
 --   lost    never
-use mathlib.Core.Path.{_≡_, refl, sym, _∙_, ap, subst}
-use mathlib.Core.List.{List, [], _∷_}
-use Prim.Native.Nat.{ℕ, zero, suc, _+_, _*_, _≤_, _<_}
+use mathlib.Core.Path.{_≡_, refl}
+use mathlib.Core.List.{List, _∷_}
+use Prim.Native.Nat.{ℕ, suc, _+_, _*_, _≤_}
 use native.Mathlib.Omega.{arith}
 use lib.ListN.{length}
 use Rattle.vocabulary.specs.declared.end.End.{End}
@@ -19,18 +19,18 @@ use Rattle.vocabulary.specs.declared.value.Value.{Value}
 use Rattle.vocabulary.specs.declared.value.Value.the-variants.{Plain as plain}
 use Rattle.vocabulary.specs.World.{World}
 use Rattle.language.specs.declared.name.Entry.{Entry}
-use Rattle.language.specs.Tree.{Expression, Command, Declaration, sizeE, sizeC, sizeD}
+use Rattle.language.specs.Tree.{Declaration, sizeD}
 use Rattle.language.specs.Scope.{scopeAfter}
-use Rattle.language.specs.Translation.{behindE, behindC, behindD}
+use Rattle.language.specs.Translation.{behindD}
 use Rattle.language.specs.Outcomes.{Binding, Outcome, bind, plainly}
 use Rattle.language.specs.Outcomes.Outcome.{done, ended, cut, lost}
 use Rattle.language.specs.Meaning.{evalE, evalC, evalD}
 use Rattle.machine.specs.declared.tables.Bound.{Bound}
 use Rattle.machine.specs.State.{Config, config, State}
-use Rattle.machine.specs.State.State.{running, halted, broken}
+use Rattle.machine.specs.State.State.{running, halted}
 use Rattle.agreement.proofs.Steps.{Setup, Reach, stay, then}
 use Rattle.agreement.proofs.Placed.{Sort, expressions, plains, commands, declarations, Placed}
-use Rattle.agreement.proofs.Scene.{Corresponds, Scene, Waiting, on, Inside, AllInside, bodies, Fits}
+use Rattle.agreement.proofs.Scene.{Corresponds, Scene, Waiting, Inside, AllInside, bodies, Fits}
 
 -- what a kind of work leaves: at most one value more, a step to spare, and locations among the cells
 pub record Work (A : Type 0) : Type 1 where
@@ -125,6 +125,18 @@ module _ (S : Setup) where
     pub fewCells : length (w .cells) ≤ r′
     pub higher : r ≤ r′
     pub enough : r′ + bodies bs ≤ r + z + bodies (Γ .bindings)
+
+  -- what a tree behind a declaration sees, what waits below it, and that it fits
+  module _ {Γ : Scene (S .code)} {K : Waiting} {p q : ℕ} {w₀ : World} {b r z : ℕ} {sc : List Entry} {bs : List Binding} {w : World} {c s : ℕ} where
+    abbrev pub sceneAfter : Declared Γ K p q w₀ b r z sc bs w c s → Scene (S .code)
+    sceneAfter d = record { scope = sc; bindings = bs; environment = d .environment; corresponds = d .corresponds }
+
+    abbrev pub waitingAfter : Declared Γ K p q w₀ b r z sc bs w c s → Waiting
+    waitingAfter d = record { values = K .values; used = d .used; dump = K .dump }
+
+    pub fits-after : (d : Declared Γ K p q w₀ b r z sc bs w c s) (z₁ z₂ : ℕ) → Fits (S .room) (Γ .bindings) K w₀ r z₂ → z + z₁ ≤ z₂ →
+        Fits (S .room) bs (waitingAfter d) w (d .r′) z₁
+    fits-after d z₁ z₂ f h = record { inside = d .inside; values = omega arith; used = d .fewUsed; dump = omega arith; cells = d .fewCells; enough = omega arith }
 
   abbrev pub Does : {A : Type 0} → Work A → Scene (S .code) → Waiting → ℕ → ℕ → World → ℕ → ℕ → Outcome A → Type 0
   Does k Γ K p q w b z o = Post (Done k Γ K p q w b) (at Γ K p w) b (z + bodies (Γ .bindings)) o

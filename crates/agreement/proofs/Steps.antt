@@ -1,8 +1,9 @@
 -- Runs of the machine, put together from steps. `Reach x s y`: s steps lead from x to y, and no state on the way has more on
--- any table than there is room for.
+-- any table than there is room for. So what a run reaches says at once where it is and that no table was ever too full.
+-- Beside it: an ended machine stays as it is, and how many steps of a run are carried out.
 use mathlib.Core.Path.{_≡_, refl, sym, _∙_, ap, subst}
 use mathlib.Core.List.{List}
-use Prim.Native.Nat.{ℕ, zero, suc, _+_, _-_, _*_, _≤_, _<_}
+use Prim.Native.Nat.{ℕ, zero, suc, _+_, _-_, _≤_, _<_}
 use native.Mathlib.Nat.{zero-add, suc-add}
 use native.Mathlib.Decide.{decLe}
 use native.Mathlib.Omega.{arith}
@@ -74,6 +75,16 @@ module _ (R : Rules) (prog : List Word) where
   taken-until-ended (suc m) x e nd w h zero = omega arith
   taken-until-ended (suc m) x e nd w h (suc n) = omega (arith, counted-once x, taken-until-ended m (step R prog x) e nd w h n)
 
+  -- and one that still runs has carried out all
+  pub taken-while-running : (n : ℕ) (x : State) (c : Config) → iterate R prog n x ≡ running c → taken R prog n x ≡ n
+  unfolding taken
+  taken-while-running zero x c h = refl
+  taken-while-running (suc n) (running d) c h = omega (arith, taken-while-running n (step R prog (running d)) c h)
+  taken-while-running (suc n) (halted e nd w) c h =
+      let y : halted e nd w ≡ running c = sym (halted-stays n e nd w) ∙ h in let z : _≡_ {A = ℕ} 0 1 = cc y in absurd (omega arith)
+  taken-while-running (suc n) broken c h =
+      let y : broken ≡ running c = sym (broken-stays n) ∙ h in let z : _≡_ {A = ℕ} 0 1 = cc y in absurd (omega arith)
+
 module _ (S : Setup) where
   pub record Reach (x : State) (s : ℕ) (y : State) : Type 0 where
     pub by : iterate (S .rules) (S .code) s x ≡ y
@@ -84,10 +95,12 @@ module _ (S : Setup) where
 
   pub then : {x y z : State} {m n : ℕ} → Reach x m y → Reach y n z → Reach x (m + n) z
   then {x} {y} {z} {m} {n} p q = record {
-      by = onward (S .rules) (S .code) m n (m + n) x y (p .by) refl ∙ q .by;
-      via = λ j h. elim (decLe m j) [
-        | yes l ↦ subst (Roomy (S .room)) (sym (onward (S .rules) (S .code) m (j - m) j x y (p .by) (omega arith))) (q .via (j - m) (omega arith))
-        | no l ↦ p .via j (omega arith) ] }
+    by = onward (S .rules) (S .code) m n (m + n) x y (p .by) refl ∙ q .by;
+    via = λ j h. elim (decLe m j) [
+      | yes l ↦ subst (Roomy (S .room)) (sym (onward (S .rules) (S .code) m (j - m) j x y (p .by) (omega arith))) (q .via (j - m) (omega arith))
+      | no l ↦ p .via j (omega arith)
+    ];
+  }
 
   -- one more step: the word at the position, that the tables are within their room, and what the word does
   pub also : {x : State} {c : Config} {s : ℕ} {y : State} (i : Instruction) (nd : ℕ) →

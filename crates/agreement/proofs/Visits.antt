@@ -1,33 +1,31 @@
 -- The evaluator is metered: a line for each form, in the evaluator's own shape. From that, the number of visits is exact.
 use mathlib.Core.Path.{_≡_, refl, sym, _∙_, ap, subst}
-use mathlib.Core.List.{List, [], _∷_}
-use mathlib.Core.Bool.{Bool, true, false}
+use mathlib.Core.List.{[], _∷_}
+use mathlib.Core.Bool.{true, false}
 use mathlib.Core.Logic.{_⊎_, inl, inr}
-use Prim.Native.Nat.{ℕ, zero, suc, _+_, _-_, _≤_, _<_}
+use Prim.Native.Nat.{ℕ, _+_, _-_, _≤_, _<_}
 use native.Mathlib.Nat.{zero-add}
 use native.Mathlib.Decide.{decLe}
 use native.Mathlib.Omega.{arith}
 use Rattle.vocabulary.specs.declared.end.End.{End}
 use Rattle.vocabulary.specs.declared.end.End.the-variants.{Halt}
-use Rattle.vocabulary.specs.declared.value.Plain.the-variants.{Number, Truth}
 use Rattle.vocabulary.specs.declared.value.Value.the-variants.{Plain as plain}
 use Rattle.vocabulary.specs.World.{World, Rules, hasRoom}
-use Rattle.language.specs.Tree.{Expression, Command, Declaration, nodeC}
+use Rattle.language.specs.Tree.{Command, nodeC}
 use Rattle.language.specs.Tree.Expression.{number, truth, read, name, operation, functionCall, choice}
 use Rattle.language.specs.Tree.Command.{assign, output, when, while, block, sequence, procedureCall}
 use Rattle.language.specs.Tree.Declaration.{constant, variable, procedure, function, pair}
-use Rattle.language.specs.Outcomes.{Binding, Outcome, find}
+use Rattle.language.specs.Outcomes.{Outcome, find}
 use Rattle.language.specs.Outcomes.Binding.{binding}
 use Rattle.language.specs.Outcomes.Denoted.{value}
 use Rattle.language.specs.Outcomes.Outcome.{done, ended, cut, lost}
-use Rattle.language.specs.Meaning.{Course, courseOf, meaning, evalE, evalC, evalD}
+use Rattle.language.specs.Meaning.{courseOf, meaning, evalE, evalC, evalD}
 use Rattle.language.specs.Meaning.Course.{finished, unfinished, meaningless}
-use Rattle.agreement.specs.Agreement.{Exact, ExactVisits}
-use Rattle.agreement.proofs.Metered.{Left, Longer, Metered, returns, binds, plainlies, takes, answers, values, puts, tests, locates, functions, procedures, metering}
+use Rattle.agreement.specs.Agreement.{ExactVisits}
+use Rattle.agreement.proofs.Metered.{Left, Longer, Meters, Begins, returns, binds, plainlies, takes, answers, values, puts, tests, locates, functions, procedures, metering}
 
 module _ (R : Rules) where
-  begunE : (g h : ℕ) → g ≤ h → ((t : Expression) (bs : List Binding) (w : World) → Metered g (evalE R g t bs w) (evalE R h t bs w)) →
-      (t : Expression) (bs : List Binding) (w : World) → Metered g (λ b. evalE R (suc g) t bs w (suc b)) (λ b. evalE R (suc h) t bs w (suc b))
+  begunE : Begins (evalE R)
   unfolding evalE
   begunE g h l ih (number nd z) bs w = returns
   begunE g h l ih (truth nd t) bs w = returns
@@ -40,12 +38,11 @@ module _ (R : Rules) where
   begunE g h l ih (choice nd a c d) bs w =
       binds (plainlies (ih a bs w)) λ x w₁. tests nd x w₁ (elim [ true ↦ ih c bs w₁ | false ↦ ih d bs w₁ ])
 
-  meterE : (g h : ℕ) → g ≤ h → (t : Expression) (bs : List Binding) (w : World) → Metered g (evalE R g t bs w) (evalE R h t bs w)
+  meterE : (g h : ℕ) → g ≤ h → Meters (evalE R) g h
   unfolding evalE
-  meterE g h l t bs w = metering (evalE R) (λ t bs w b. refl) (λ g t bs w. refl) begunE g h l t bs w
+  meterE = metering (evalE R) (λ t bs w b. refl) (λ g t bs w. refl) begunE
 
-  begunD : (g h : ℕ) → g ≤ h → ((t : Declaration) (bs : List Binding) (w : World) → Metered g (evalD R g t bs w) (evalD R h t bs w)) →
-      (t : Declaration) (bs : List Binding) (w : World) → Metered g (λ b. evalD R (suc g) t bs w (suc b)) (λ b. evalD R (suc h) t bs w (suc b))
+  begunD : Begins (evalD R)
   unfolding evalD
   begunD g h l ih (constant nd x a) bs w = binds (plainlies (meterE g h l a bs w)) λ p w₁. returns
   begunD g h l ih (variable nd x a) bs w = binds (plainlies (meterE g h l a bs w)) λ p w₁. returns
@@ -53,12 +50,11 @@ module _ (R : Rules) where
   begunD g h l ih (function nd x t y) bs w = returns
   begunD g h l ih (pair nd a c) bs w = binds (ih a bs w) λ bs₁ w₁. ih c bs₁ w₁
 
-  meterD : (g h : ℕ) → g ≤ h → (t : Declaration) (bs : List Binding) (w : World) → Metered g (evalD R g t bs w) (evalD R h t bs w)
+  meterD : (g h : ℕ) → g ≤ h → Meters (evalD R) g h
   unfolding evalD
-  meterD g h l t bs w = metering (evalD R) (λ t bs w b. refl) (λ g t bs w. refl) begunD g h l t bs w
+  meterD = metering (evalD R) (λ t bs w b. refl) (λ g t bs w. refl) begunD
 
-  begunC : (g h : ℕ) → g ≤ h → ((t : Command) (bs : List Binding) (w : World) → Metered g (evalC R g t bs w) (evalC R h t bs w)) →
-      (t : Command) (bs : List Binding) (w : World) → Metered g (λ b. evalC R (suc g) t bs w (suc b)) (λ b. evalC R (suc h) t bs w (suc b))
+  begunC : Begins (evalC R)
   unfolding evalC
   begunC g h l ih (assign nd a c) bs w =
       binds (meterE g h l a bs w) λ v w₁. locates nd v w₁ λ i. binds (plainlies (meterE g h l c bs w₁)) λ p w₂. returns
@@ -75,9 +71,9 @@ module _ (R : Rules) where
   begunC g h l ih (procedureCall nd f a) bs w =
       binds (meterE g h l a bs w) λ v w₁. procedures (find bs f) λ y t rest. ih t (binding y (value v) ∷ rest) w₁
 
-  meterC : (g h : ℕ) → g ≤ h → (t : Command) (bs : List Binding) (w : World) → Metered g (evalC R g t bs w) (evalC R h t bs w)
+  meterC : (g h : ℕ) → g ≤ h → Meters (evalC R) g h
   unfolding evalC
-  meterC g h l t bs w = metering (evalC R) (λ t bs w b. refl) (λ g t bs w. refl) begunC g h l t bs w
+  meterC = metering (evalC R) (λ t bs w b. refl) (λ g t bs w. refl) begunC
 
 -- what an outcome says of one with j visits more
 finished-longer : (nd j : ℕ) (o o′ : Outcome (Unit {0})) → Longer j o o′ → (e : End) (n : ℕ) (w′ : World) (c : ℕ) →
@@ -121,13 +117,15 @@ module _ (R : Rules) (t : Command) (w : World) where
   fewer v e n w′ q k h =
       elim (with-fewer k (v - k) v (omega arith) e n w′ 0 q) [
         | inl d ↦ let f = d .1 in absurd (omega arith)
-        | inr d ↦ d .1 ]
+        | inr d ↦ d .1
+      ]
 
   once : (v k : ℕ) (e f : End) (n m : ℕ) (w′ u : World) → meaning R t w v ≡ finished e n w′ 0 → meaning R t w k ≡ finished f m u 0 → v ≤ k
   once v k e f n m w′ u q r =
       elim (decLe v k) [
         | yes h ↦ h
-        | no h ↦ let x = fewer v e n w′ q k (omega arith) in let y : unfinished (x .0) ≡ finished f m u 0 = sym (x .1) ∙ r in let z : _≡_ {A = ℕ} 0 1 = cc y in absurd (omega arith) ]
+        | no h ↦ let x = fewer v e n w′ q k (omega arith) in let y : unfinished (x .0) ≡ finished f m u 0 = sym (x .1) ∙ r in let z : _≡_ {A = ℕ} 0 1 = cc y in absurd (omega arith)
+      ]
 
   more-visits : (v : ℕ) (e : End) (n : ℕ) (w′ : World) → meaning R t w v ≡ finished e n w′ 0 → (m : ℕ) → meaning R t w (v + m) ≡ finished e n w′ m
   unfolding meaning
@@ -137,13 +135,17 @@ module _ (R : Rules) (t : Command) (w : World) where
   pub used-up : (k b : ℕ) (e : End) (n : ℕ) (w′ : World) → meaning R t w k ≡ finished e n w′ b → (v : ℕ) × (meaning R t w v ≡ finished e n w′ 0)
   unfolding meaning
   used-up k b e n w′ q =
-      let l : b ≤ k = left-finished (λ c. c ≤ k) (nodeC t) (evalC R k t [] w k) (meterC R k k (omega arith) t [] w .low k) e n w′ b q in
-      (k - b, elim (with-fewer (k - b) b k (omega arith) e n w′ b q) [
-        | inl d ↦ let f = d .1 in let g : d .0 ≡ 0 = omega arith in d .2 ∙ ap (finished e n w′) g
-        | inr d ↦ let f = d .0 in absurd (omega arith) ])
+      let l : b ≤ k = left-finished (λ c. c ≤ k) (nodeC t) (evalC R k t [] w k) (meterC R k k (omega arith) t [] w .low k) e n w′ b q in (
+        k - b,
+        elim (with-fewer (k - b) b k (omega arith) e n w′ b q) [
+          | inl d ↦ let f = d .1 in let g : d .0 ≡ 0 = omega arith in d .2 ∙ ap (finished e n w′) g
+          | inr d ↦ let f = d .0 in absurd (omega arith)
+        ],
+      )
 
 pub exact-visits : ExactVisits
 exact-visits R t w v e n w′ q = record {
-    more = more-visits R t w v e n w′ q;
-    fewer = fewer R t w v e n w′ q;
-    once = λ k f m u r. let x = once R t w v k e f n m w′ u q r in let y = once R t w k v f e m n u w′ r q in omega arith }
+  more = more-visits R t w v e n w′ q;
+  fewer = fewer R t w v e n w′ q;
+  once = λ k f m u r. let x = once R t w v k e f n m w′ u q r in let y = once R t w k v f e m n u w′ r q in omega arith;
+}

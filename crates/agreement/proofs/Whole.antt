@@ -1,9 +1,8 @@
 -- The whole program: from the simulation to the statements of the agreement. What the meaning within k visits says of the machine is
 -- set beside what the machine does in s steps, where k is so large that the machine has made more than s steps by then.
 use mathlib.Core.Path.{_≡_, refl, sym, _∙_, ap, subst}
-use mathlib.Core.List.{List, []}
-use mathlib.Core.Logic.{_⊎_, inl, inr}
-use Prim.Native.Nat.{ℕ, zero, suc, _+_, _-_, _*_, _≤_, _<_}
+use mathlib.Core.List.{[]}
+use Prim.Native.Nat.{ℕ, _+_, _-_, _*_, _≤_}
 use native.Mathlib.Decide.{decLe}
 use native.Mathlib.Omega.{arith}
 use lib.ListN.{length}
@@ -22,7 +21,7 @@ use Rattle.machine.specs.State.{Config, State}
 use Rattle.machine.specs.State.State.{running, halted, broken}
 use Rattle.machine.specs.Machine.{iterate, start}
 use Rattle.agreement.specs.Agreement.{Within, FirstPartOf, Agreement}
-use Rattle.agreement.proofs.Steps.{Setup, Roomy, Reach, onward, halted-stays, broken-stays, taken-until-ended, also}
+use Rattle.agreement.proofs.Steps.{Setup, Roomy, Reach, onward, halted-stays, broken-stays, taken-until-ended, taken-while-running, also}
 use Rattle.agreement.proofs.Placed.{program-stands}
 use Rattle.agreement.proofs.Scene.{Scene, Waiting}
 use Rattle.agreement.proofs.Scene.Corresponds.{nil}
@@ -64,20 +63,31 @@ module _ (R : Rules) (t : Command) (w : World) (fits : sizeC t ≤ R .limit) whe
       let h = ap length empty in
       from (evalC R k t [] w k)
       (simC setup k t Γ K 0 w k 0 (program-stands t named .0)
-        (record { inside = tt; values = omega arith; used = omega arith; dump = omega arith; cells = omega arith; enough = omega arith }) (omega arith))
+      (record { inside = tt; values = omega arith; used = omega arith; dump = omega arith; cells = omega arith; enough = omega arith }) (omega arith))
     where
       Γ : Scene (program t)
       Γ = record { scope = []; bindings = []; environment = []; corresponds = nil }
+
       K : Waiting
       K = record { values = []; used = 0; dump = [] }
+
       from : (o : Outcome (Unit {0})) → Does setup aCommand Γ K 0 (behindC t 0) w k (sizeC t) o → Says k (courseOf (nodeC t) o)
       from (done u w′ b) q =
           let d = q .told .1 in let h = ap length empty in record {
-            steps = q .told .0 + 1; last = halted Halted (nodeC t) w′; reach = also setup Halt (nodeC t) (d .reach) (program-stands t named .1) (omega arith) refl;
-            shows = refl; lasts = omega arith }
+            steps = q .told .0 + 1;
+            last = halted Halted (nodeC t) w′;
+            reach = also setup Halt (nodeC t) (d .reach) (program-stands t named .1) (omega arith) refl;
+            shows = refl;
+            lasts = omega arith;
+          }
       from (ended e n w′ b) q = let l = q .told .2 in record { steps = q .told .0; last = halted e n w′; reach = q .told .1; shows = refl; lasts = omega arith }
       from (cut w′) q = let l = q .told .4 in record {
-          steps = q .told .0; last = running (q .told .1); reach = q .told .2; shows = (q .told .1, refl, q .told .3); lasts = omega arith }
+        steps = q .told .0;
+        last = running (q .told .1);
+        reach = q .told .2;
+        shows = (q .told .1, refl, q .told .3);
+        lasts = omega arith;
+      }
       from lost q = absurd (q .told)
 
   -- what there is to say of each state that the machine comes to
@@ -98,27 +108,29 @@ module _ (R : Rules) (t : Command) (w : World) (fits : sizeC t ≤ R .limit) whe
       (subst (Grew (c .world)) (v .2) (subst (Since (c .world)) (z ∙ v .1) (since s d s₁ c h x)))
   first-part s d s₁ c meaningless y h x z v = absurd v
 
-  module _ (told : (k : ℕ) → Says k (meaning R t w k)) where
-    -- the state at s, when the course at k shows at a later state, or at an earlier one that has ended
-    fate-before : (s d s₁ k : ℕ) (x : State) (V : Course) → state s ≡ x → s₁ ≡ s + d → meaning R t w k ≡ V → Shows V (state s₁) → Roomy (sizeC t) x → Fate x
-    fate-before s d s₁ k (running c) V h e m v roomy = (roomy, (k, subst (FirstPartOf w (c .world)) (sym m) (first-part s d s₁ c V (state s₁) h e refl v)))
-    fate-before s d s₁ k (halted f n u) V h e m v roomy = same V m v
-      where
-        stays : state s₁ ≡ halted f n u
-        stays = onward R (program t) s d s₁ (start w) _ h e ∙ halted-stays R (program t) d f n u
-        same : (V : Course) → meaning R t w k ≡ V → Shows V (state s₁) → Fate (halted f n u)
-        same (finished f₁ n₁ u₁ b) m v = let z : halted f n u ≡ halted f₁ n₁ u₁ = sym stays ∙ v in (k, b, cc)
-        same (unfinished u₁) m v = let y : running (v .0) ≡ halted f n u = sym (v .1) ∙ stays in let z : _≡_ {A = ℕ} 0 1 = cc y in absurd (omega arith)
-        same meaningless m v = absurd v
-    fate-before s d s₁ k broken V h e m v roomy = none V v
-      where
-        stays : state s₁ ≡ broken
-        stays = onward R (program t) s d s₁ (start w) _ h e ∙ broken-stays R (program t) d
-        none : (V : Course) → Shows V (state s₁) → ⊥
-        none (finished f n u b) v = let y : broken ≡ halted f n u = sym stays ∙ v in let z : _≡_ {A = ℕ} 0 1 = cc y in omega arith
-        none (unfinished u) v = let y : running (v .0) ≡ broken = sym (v .1) ∙ stays in let z : _≡_ {A = ℕ} 0 1 = cc y in omega arith
-        none meaningless v = v
+  -- the state at s, when the course at k shows at a state that is no earlier
+  fate-before : (s d s₁ k : ℕ) (x : State) (V : Course) → state s ≡ x → s₁ ≡ s + d → meaning R t w k ≡ V → Shows V (state s₁) → Roomy (sizeC t) x → Fate x
+  fate-before s d s₁ k (running c) V h e m v roomy = (roomy, (k, subst (FirstPartOf w (c .world)) (sym m) (first-part s d s₁ c V (state s₁) h e refl v)))
+  fate-before s d s₁ k (halted f n u) V h e m v roomy = same V m v
+    where
+      stays : state s₁ ≡ halted f n u
+      stays = onward R (program t) s d s₁ (start w) _ h e ∙ halted-stays R (program t) d f n u
 
+      same : (V : Course) → meaning R t w k ≡ V → Shows V (state s₁) → Fate (halted f n u)
+      same (finished f₁ n₁ u₁ b) m v = let z : halted f n u ≡ halted f₁ n₁ u₁ = sym stays ∙ v in (k, b, cc)
+      same (unfinished u₁) m v = let y : running (v .0) ≡ halted f n u = sym (v .1) ∙ stays in let z : _≡_ {A = ℕ} 0 1 = cc y in absurd (omega arith)
+      same meaningless m v = absurd v
+  fate-before s d s₁ k broken V h e m v roomy = none V v
+    where
+      stays : state s₁ ≡ broken
+      stays = onward R (program t) s d s₁ (start w) _ h e ∙ broken-stays R (program t) d
+
+      none : (V : Course) → Shows V (state s₁) → ⊥
+      none (finished f n u b) v = let y : broken ≡ halted f n u = sym stays ∙ v in let z : _≡_ {A = ℕ} 0 1 = cc y in omega arith
+      none (unfinished u) v = let y : running (v .0) ≡ broken = sym (v .1) ∙ stays in let z : _≡_ {A = ℕ} 0 1 = cc y in omega arith
+      none meaningless v = v
+
+  module _ (told : (k : ℕ) → Says k (meaning R t w k)) where
     -- so many visits that the machine has made more than s steps, unless it has ended
     abbrev plenty : ℕ → ℕ
     plenty s = 2 * s + sizeC t + 3
@@ -130,7 +142,8 @@ module _ (R : Rules) (t : Command) (w : World) (fits : sizeC t ≤ R .limit) whe
         go V m q =
             elim (decLe (q .steps) s) [
               | yes l ↦ over V m q l
-              | no l ↦ fate-before s (q .steps - s) (q .steps) (plenty s) (state s) V refl (omega arith) m (subst (Shows V) (sym (q .reach .by)) (q .shows)) (q .reach .via s (omega arith)) ]
+              | no l ↦ fate-before s (q .steps - s) (q .steps) (plenty s) (state s) V refl (omega arith) m (subst (Shows V) (sym (q .reach .by)) (q .shows)) (q .reach .via s (omega arith))
+            ]
           where
             over : (V : Course) → meaning R t w (plenty s) ≡ V → (q : Says (plenty s) V) → q .steps ≤ s → Fate (state s)
             over (finished e n u b) m q l =
@@ -153,8 +166,10 @@ agreement R t w named fits empty =
     let told = says R t w fits named empty in record {
       soon = soon R t w fits told;
       steps = λ v e n w′ h. taken-until-ended R (program t) (3 * v + 1) (start w) e n w′ (soon R t w fits told v e n w′ h);
+      granted = λ s c h. taken-while-running R (program t) s (start w) c h;
       alike = λ s e n w′ h. (let f = subst (Fate R t w fits) h (fate R t w fits told s) in used-up R t w (f .0) (f .1) e n w′ (f .2));
       first = λ s c h. subst (Fate R t w fits) h (fate R t w fits told s) .1;
       meant = meant R t w fits told;
       unbroken = λ s h. subst (Fate R t w fits) h (fate R t w fits told s);
-      room = λ s c h. subst (Fate R t w fits) h (fate R t w fits told s) .0 }
+      room = λ s c h. subst (Fate R t w fits) h (fate R t w fits told s) .0;
+    }

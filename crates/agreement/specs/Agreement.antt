@@ -13,7 +13,7 @@ use Rattle.language.specs.Names.{NamedC}
 use Rattle.language.specs.Translation.{program}
 use Rattle.language.specs.Meaning.{Course, meaning}
 use Rattle.language.specs.Meaning.Course.{finished, unfinished, meaningless}
-use Rattle.machine.specs.State.{Config, State}
+use Rattle.machine.specs.State.{Config}
 use Rattle.machine.specs.State.State.{running, halted, broken}
 use Rattle.machine.specs.Machine.{iterate, taken, start}
 
@@ -52,6 +52,8 @@ pub record Agrees (R : Rules) (t : Command) (w : World) : Type 0 where
   -- and however long it is run, it carries out no more steps than that
   pub steps : (v : ℕ) (e : End) (n : ℕ) (w′ : World) → meaning R t w v ≡ finished e n w′ 0 →
       (s : ℕ) → taken R (program t) s (start w) ≤ 3 * v + 1
+  -- a machine that still runs has carried out every step that it was granted
+  pub granted : (s : ℕ) (c : Config) → iterate R (program t) s (start w) ≡ running c → taken R (program t) s (start w) ≡ s
   -- a machine that has ended: after some number of visits the meaning ends alike
   pub alike : (s : ℕ) (e : End) (n : ℕ) (w′ : World) → iterate R (program t) s (start w) ≡ halted e n w′ →
       (v : ℕ) × (meaning R t w v ≡ finished e n w′ 0)

@@ -73,7 +73,7 @@ module _ {X : Type 0} (bytes : X → List ℕ) (eight : (x : X) → length (byte
   match-step part W xs i d h w s e =
       let a : take (8 * i + 8 - 8 * i) (drop (8 * i) part) ≡ W = sameBytes-decides (take (8 * i + 8 - 8 * i) (drop (8 * i) part)) W .0 (sym s) in
       let b : take (8 * (i + 1)) part ≡ take (8 * i) part ++ take (8 * i + 8 - 8 * i) (drop (8 * i) part) =
-          ap (λ (n : ℕ). take n part) {x = 8 * (i + 1)} {y = 8 * i + (8 * i + 8 - 8 * i)} (omega arith) ∙ take-add (8 * i) (8 * i + 8 - 8 * i) part in
+      ap (λ (n : ℕ). take n part) {x = 8 * (i + 1)} {y = 8 * i + (8 * i + 8 - 8 * i)} (omega arith) ∙ take-add (8 * i) (8 * i + 8 - 8 * i) part in
       let f = encoded-more bytes xs i d h in
       cc
 

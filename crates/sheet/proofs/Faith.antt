@@ -23,7 +23,7 @@ use Rattle.language.proofs.Accepted.{well-formed}
 use Rattle.language.proofs.Filling.{length-nodes}
 use Rattle.language.proofs.Lengths.{few-words}
 use Rattle.language.proofs.Sizes.{root-size}
-use Rattle.language.proofs.Upward.{both-ok, ok-both, unless-ok, ok-unless}
+use Rattle.language.proofs.Verdicts.{both-accept, accept-both, unless-accepts, accept-unless}
 use Rattle.sheet.specs.Layout.{two, wordBytes, tableBytes, codeBytes, header, offsetOf, totalOf, sizeOf, sheetOf}
 use Rattle.sheet.specs.Sheets.{nodeCount, wordCount, framed, tablePart, codePart, openVerdict}
 use Rattle.sheet.specs.Faithful.{Bytes, programOf, SheetOf, OpensSheets, OneTable, Reopening}
@@ -48,7 +48,7 @@ sized t e =
     let most = w .most in
     let count = length-nodes t (length t / 8) in
     let n : length (nodesOf t) ≤ 512 = omega arith in
-    let shape = both-ok (shapeVerdict (nodesOf t)) (namesC (treeOf (nodesOf t)) []) (both-ok (unless (fits (length t)) TableLength 0) (nodesVerdict (nodesOf t)) e .1) .0 in
+    let shape = both-accept (shapeVerdict (nodesOf t)) (namesC (treeOf (nodesOf t)) []) (both-accept (unless (fits (length t)) TableLength 0) (nodesVerdict (nodesOf t)) e .1) .0 in
     let size = root-size (nodesOf t) shape in
     let few = few-words (treeOf (nodesOf t)) in
     record { eights = w .eights; nodes = n; words = omega arith }
@@ -62,19 +62,19 @@ record Opened (b : List ℕ) : Type 0 where
 opened : (b : List ℕ) → openVerdict b ≡ Ok tt → Opened b
 opened b e =
     let same = sameBytes (codePart b) (codeBytes (codeIn (tablePart b))) in
-    let f = both-ok (unless (framed b) SheetHeader 0) _ e in
-    let g = both-ok (tableVerdict (tablePart b)) (unless same NotTheTranslation 0) (f .1) in
+    let f = both-accept (unless (framed b) SheetHeader 0) _ e in
+    let g = both-accept (tableVerdict (tablePart b)) (unless same NotTheTranslation 0) (f .1) in
     record {
-      frame = unless-ok (framed b) SheetHeader 0 (f .0);
+      frame = unless-accepts (framed b) SheetHeader 0 (f .0);
       table = g .0;
-      code = sameBytes-decides (codePart b) (codeBytes (codeIn (tablePart b))) .0 (unless-ok same NotTheTranslation 0 (g .1)) }
+      code = sameBytes-decides (codePart b) (codeBytes (codeIn (tablePart b))) .0 (unless-accepts same NotTheTranslation 0 (g .1)) }
 
 opens : (b : List ℕ) → Opened b → openVerdict b ≡ Ok tt
 opens b o =
     let same = sameBytes (codePart b) (codeBytes (codeIn (tablePart b))) in
-    ok-both (unless (framed b) SheetHeader 0) _ (ok-unless (framed b) SheetHeader 0 (o .frame))
-    (ok-both (tableVerdict (tablePart b)) (unless same NotTheTranslation 0) (o .table)
-    (ok-unless same NotTheTranslation 0 (sameBytes-decides (codePart b) (codeBytes (codeIn (tablePart b))) .1 (o .code))))
+    accept-both (accept-unless (framed b) SheetHeader 0 (o .frame))
+    (accept-both (o .table)
+    (accept-unless same NotTheTranslation 0 (sameBytes-decides (codePart b) (codeBytes (codeIn (tablePart b))) .1 (o .code))))
 
 -- the table stands in its sheet
 table-in : (t : List ℕ) → Bytes t → tableVerdict t ≡ Ok tt → tablePart (sheetOf (programOf t)) ≡ t

@@ -48,15 +48,28 @@ frame-of b e =
     let e2 = and-parts (v && s) o (e3 .0) in
     let e1 = and-parts v s (e2 .0) in
     record {
-      version = eqb-true (field b 0) 1 (e1 .0); start = eqb-true (field b 6) 16 (e1 .1); offset = eqb-true (field b 8) (offsetOf n) (e2 .1);
-      total = eqb-true (field b 10) t (e3 .1); spare = eqb-true (field b 12) 0 (e4 .1); last = eqb-true (field b 14) 0 (e5 .1); long = eqb-true (length b) t (e6 .1) }
+      version = eqb-true (field b 0) 1 (e1 .0);
+      start = eqb-true (field b 6) 16 (e1 .1);
+      offset = eqb-true (field b 8) (offsetOf n) (e2 .1);
+      total = eqb-true (field b 10) t (e3 .1);
+      spare = eqb-true (field b 12) 0 (e4 .1);
+      last = eqb-true (field b 14) 0 (e5 .1);
+      long = eqb-true (length b) t (e6 .1);
+    }
 
 framed-by : (b : List ℕ) → Frame b → framed b ≡ true
 framed-by b f =
     let n = nodeCount b in
     let t = totalOf n (wordCount b) in
-    rw (eq-eqb (field b 0) 1 (f .version), eq-eqb (field b 6) 16 (f .start), eq-eqb (field b 8) (offsetOf n) (f .offset), eq-eqb (field b 10) t (f .total),
-      eq-eqb (field b 12) 0 (f .spare), eq-eqb (field b 14) 0 (f .last), eq-eqb (length b) t (f .long))
+    rw (
+      eq-eqb (field b 0) 1 (f .version),
+      eq-eqb (field b 6) 16 (f .start),
+      eq-eqb (field b 8) (offsetOf n) (f .offset),
+      eq-eqb (field b 10) t (f .total),
+      eq-eqb (field b 12) 0 (f .spare),
+      eq-eqb (field b 14) 0 (f .last),
+      eq-eqb (length b) t (f .long),
+    )
 
 -- a half sheet has 0 where the offset of the code stands
 pub half-refused : HalfRefused
@@ -96,4 +109,11 @@ module _ (p : Program) where
       let o : offsetOf (nodeCount (sheetOf p)) ≡ offsetOf (length (p .nodes)) = ap offsetOf n in
       let t : totalOf (nodeCount (sheetOf p)) (wordCount (sheetOf p)) ≡ sizeOf p = ap (λ (k : ℕ). totalOf k (wordCount (sheetOf p))) n ∙ ap (totalOf (length (p .nodes))) m in
       framed-by (sheetOf p) (record {
-        version = refl; start = refl; offset = field-of-two (offsetOf (length (p .nodes))) (omega arith) ∙ sym o; total = field-of-two (sizeOf p) h ∙ sym t; spare = refl; last = refl; long = sheet-length ∙ sym t })
+        version = refl;
+        start = refl;
+        offset = field-of-two (offsetOf (length (p .nodes))) (omega arith) ∙ sym o;
+        total = field-of-two (sizeOf p) h ∙ sym t;
+        spare = refl;
+        last = refl;
+        long = sheet-length ∙ sym t;
+      })

@@ -53,7 +53,7 @@ module _ (nodes : List Node) (mem : List ℕ) where
   started head m1 ys l h e f =
       let a : take 16 m1 ≡ head = ap (take 16) e ∙ take-at head (drop 16 mem) 16 l in
       let d : drop (16 + 8 * length nodes) m1 ≡ drop (offsetOf (length nodes)) mem =
-          sym (drop-drop (8 * length nodes) 16 m1) ∙ (ap (λ (z : List ℕ). drop (8 * length nodes) z) (ap (drop 16) e ∙ drop-at head (drop 16 mem) 16 l) ∙ drop-drop (8 * length nodes) 16 mem) in
+      sym (drop-drop (8 * length nodes) 16 m1) ∙ (ap (λ (z : List ℕ). drop (8 * length nodes) z) (ap (drop 16) e ∙ drop-at head (drop 16 mem) 16 l) ∙ drop-drop (8 * length nodes) 16 mem) in
       tail-is m1 (tableBytes nodes) ys 16 (8 * length nodes) f ∙ (rw (a, d) (sym (append-assoc head (tableBytes nodes) (drop (offsetOf (length nodes)) mem))))
 
 -- the code behind the half, then the full header over the half's
@@ -82,12 +82,13 @@ half-means p half mem l e =
     record {
       nodes = eqb-true (half .nodes) N (b .0);
       offset = eqb-true (half .«code_at») (offsetOf N) (b .1);
-      table = sym (drop-at (take 16 mem) (take (8 * N) (drop 16 mem)) 16 n) ∙ (ap (drop 16) x ∙ drop-at (header N 0 0 0) (tableBytes (p .nodes)) 16 refl) }
+      table = sym (drop-at (take 16 mem) (take (8 * N) (drop 16 mem)) 16 n) ∙ (ap (drop 16) x ∙ drop-at (header N 0 0 0) (tableBytes (p .nodes)) 16 refl);
+    }
 
 -- what finish leaves
 pub finished : (p : Program) (half : HalfSheet) (mem m2 : List ℕ) → Half p half mem
     → m2 ≡ header (half .nodes) (length (p .code)) (half .«code_at») (half .«code_at» + 8 * length (p .code))
-        ++ (take (half .«code_at» - 16) (drop 16 mem) ++ (codeBytes (p .code) ++ drop (half .«code_at» + 8 * length (p .code)) mem))
+    ++ (take (half .«code_at» - 16) (drop 16 mem) ++ (codeBytes (p .code) ++ drop (half .«code_at» + 8 * length (p .code)) mem))
     → m2 ≡ sheetOf p ++ drop (sizeOf p) mem
 finished p half mem m2 h e =
     let N = length (p .nodes) in

@@ -14,8 +14,15 @@ use Rattle.sheet.specs.Sheets.{nodeCount, wordCount, framed}
 -- the eight numbers at the start of a sheet
 abbrev pub headerOf : List ℕ → Header
 headerOf sheet = record {
-    version = field sheet 0; nodes = nodeCount sheet; words = wordCount sheet; «nodes_at» = field sheet 6;
-    «code_at» = field sheet 8; total = field sheet 10; spare = field sheet 12; last = field sheet 14 }
+  version = field sheet 0;
+  nodes = nodeCount sheet;
+  words = wordCount sheet;
+  «nodes_at» = field sheet 6;
+  «code_at» = field sheet 8;
+  total = field sheet 10;
+  spare = field sheet 12;
+  last = field sheet 14;
+}
 
 -- the header, unless there are fewer than 16 bytes
 abbrev pub headerIn : List ℕ → Option Header

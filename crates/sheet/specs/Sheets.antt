@@ -27,7 +27,7 @@ startVerdict (Some p) size = unless (leb (sizeOf p) size) MemoryShort 0
 abbrev pub isHalf : Program → HalfSheet → List ℕ → Bool
 isHalf p half memory =
     eqb (half .nodes) (length (p .nodes)) && eqb (half .«code_at») (offsetOf (length (p .nodes)))
-      && sameBytes (take (offsetOf (length (p .nodes))) memory) (halfOf p)
+    && sameBytes (take (offsetOf (length (p .nodes))) memory) (halfOf p)
 
 -- finishing the sheet in a memory
 abbrev pub finishVerdict : Option Program → HalfSheet → List ℕ → Verdict
@@ -48,7 +48,7 @@ framed sheet =
     let offset = offsetOf (nodeCount sheet) in
     let total = totalOf (nodeCount sheet) (wordCount sheet) in
     eqb (field sheet 0) 1 && eqb (field sheet 6) 16 && eqb (field sheet 8) offset && eqb (field sheet 10) total
-      && eqb (field sheet 12) 0 && eqb (field sheet 14) 0 && eqb (length sheet) total
+    && eqb (field sheet 12) 0 && eqb (field sheet 14) 0 && eqb (length sheet) total
 
 -- the bytes of the nodes, and those of the code
 abbrev pub tablePart : List ℕ → List ℕ

@@ -14,18 +14,19 @@ use Rattle.language.specs.declared.name.Entry.{Entry}
 use Rattle.language.specs.declared.name.Role.the-variants.{Procedure}
 use Rattle.language.specs.Names.{namesC, namesD}
 use Rattle.language.specs.Reading.{treeC, treeD}
-use Rattle.language.specs.Scope.{placeOf, scopeAfter}
+use Rattle.language.specs.Scope.{placeOf}
 use Rattle.language.specs.Sound.{Sound, LowerC, LowerD}
 use Rattle.language.specs.Translation.{one, word, plainCode, codeE, codeC, codeD, behindE, behindC, behindD}
 use Rattle.language.specs.Tree.{Expression, Command, Declaration, sizeC, sizeD}
 use Rattle.language.specs.Tree.Command.{assign, output, when, while, block, sequence, procedureCall}
+use Rattle.language.proofs.Lengths.{few-C, few-D}
 use Rattle.translation.specs.declared.tables.Code.{Code}
 use Rattle.translation.specs.declared.tables.Scope.{Scope}
 use Rattle.translation.specs.Held.{visible, Added, Aimed, Same, Resolved}
 use Rattle.translation.specs.Translated.{ReadyC, ReadyD, Wrote, TranslatedE, TranslatedPlain, TranslatedC, TranslatedD}
-use Rattle.translation.proofs.Expressions.{at-E, at-plain, second}
+use Rattle.translation.proofs.Expressions.{at-plain, second}
 use Rattle.translation.proofs.Scopes.{same-refl, same-trans}
-use Rattle.translation.proofs.Writing.{added-then, step, jumped, branched}
+use Rattle.translation.proofs.Writing.{added-then, step, jumped, branched, counted}
 
 -- a child is ready where its tree has room
 pub ready-C : {nodes : List Node} {n a : ℕ} {d : Code} {s : Scope} → Sound nodes → n < length nodes → LowerC nodes n a → d .count + 3 * sizeC (treeC nodes a) ≤ 1537 → s .count + sizeC (treeC nodes a) ≤ 512 → ReadyC nodes a d s
@@ -33,6 +34,13 @@ ready-C g h (l, i) r m = record { sound = g; here = omega arith; sort = i; room 
 
 pub ready-D : {nodes : List Node} {n a : ℕ} {d : Code} {s : Scope} → Sound nodes → n < length nodes → LowerD nodes n a → d .count + 3 * sizeD (treeD nodes a) ≤ 1537 → s .count + sizeD (treeD nodes a) ≤ 512 → ReadyD nodes a d s
 ready-D g h (l, i) r m = record { sound = g; here = omega arith; sort = i; room = r; names = m }
+
+-- three words are room enough for each node
+pub end-C : {t : Command} {s v : Scope} {c d : Code} → TranslatedC t s v c d (Ok tt) → d .count ≤ c .count + 3 * sizeC t
+end-C {t} {s} {c = c} q = omega (arith, counted (q .wrote), few-C t (visible s) (c .count))
+
+pub end-D : {t : Declaration} {s v : Scope} {c d : Code} → TranslatedD t s v c d (Ok tt) → d .count ≤ c .count + 3 * sizeD t
+end-D {t} {s} {c = c} q = omega (arith, counted (q .wrote), few-D t (visible s) (c .count))
 
 pub same-C : {t u : Command} {s v : Scope} {c d : Code} {r : Verdict} → t ≡ u → TranslatedC u s v c d r → TranslatedC t s v c d r
 same-C {s = s} {v} {c} {d} {r} e h = subst (λ (x : Command). TranslatedC x s v c d r) (sym e) h
@@ -42,7 +50,8 @@ pub refused-C : {t u : Command} {s v : Scope} {c d : Code} {r : Verdict} {x : Re
 refused-C {t} {u} {s} {c = c} {d} e i h m = record {
   answer = e ∙ h ∙ sym (ap (λ (w : Command). namesC w (visible s)) i);
   wrote = subst (λ (w : Verdict). Wrote c d (codeC t (visible s) (c .count)) (behindC t (c .count)) w) (sym e) tt;
-  same = m }
+  same = m;
+}
 
 -- at the position where the code before it ends, and with the names that are visible there
 pub at-C : {t : Command} {s v : Scope} {d e : Code} {p : ℕ} {sc : List Entry} → visible s ≡ sc → d .count ≡ p → TranslatedC t s v d e (Ok tt) → Added d e (codeC t sc p) (behindC t p)
@@ -76,12 +85,13 @@ module _ (n : ℕ) (a : Expression) (s : Scope) {c d e : Code} where
   procedureCall-done f (v, i) p A = record {
     answer = second (sym v) (p .answer);
     wrote = added-then (p .wrote) (subst (λ (j : ℕ). Added d e (one (Call j) n) (suc (behindE a (c .count)))) i (step (p .wrote .end) A));
-    same = same-refl s }
+    same = same-refl s;
+  }
 
 module _ (n : ℕ) (a : Expression) (b t : Command) {s u v : Scope} {c d e f g h i j : Code} where
   pub when-done : {x y : Instruction} {k k′ l m : ℕ} → TranslatedPlain a (visible s) c d (Ok tt) → k ≡ d .count → Added d e (one x n) (suc (d .count))
-    → TranslatedC b s u e f (Ok tt) → k′ ≡ f .count → Added f g (one y n) (suc (f .count)) → l ≡ g .count → Aimed g h k (word (JumpFalse l) n)
-    → TranslatedC t u v h i (Ok tt) → m ≡ i .count → Aimed i j k′ (word (Jump m) n) → TranslatedC (when n a b t) s v c j (Ok tt)
+      → TranslatedC b s u e f (Ok tt) → k′ ≡ f .count → Added f g (one y n) (suc (f .count)) → l ≡ g .count → Aimed g h k (word (JumpFalse l) n)
+      → TranslatedC t u v h i (Ok tt) → m ≡ i .count → Aimed i j k′ (word (Jump m) n) → TranslatedC (when n a b t) s v c j (Ok tt)
   unfolding namesC
   when-done {m = m} p x A q y B z X r Z Y =
       let sc = visible s in
@@ -94,11 +104,12 @@ module _ (n : ℕ) (a : Expression) (b t : Command) {s u v : Scope} {c d e f g h
       record {
         answer = second (p .answer) (second (q .answer) (verdict-C (q .same .seen) r));
         wrote = subst (T at-t) (Z ∙ r′ .end) (subst (λ (v : ℕ). T v m) (z ∙ B′ .end) (branched (p .wrote) x A q′ y B′ X r′ Y));
-        same = same-trans (q .same) (r .same) }
+        same = same-trans (q .same) (r .same);
+      }
 
 module _ (n : ℕ) (a : Expression) (b : Command) {s u : Scope} {c d e f g h : Code} where
   pub while-done : {x : Instruction} {k l m : ℕ} → m ≡ c .count → TranslatedPlain a (visible s) c d (Ok tt) → k ≡ d .count → Added d e (one x n) (suc (d .count))
-    → TranslatedC b s u e f (Ok tt) → Added f g (one (Jump m) n) (suc (f .count)) → l ≡ g .count → Aimed g h k (word (JumpFalse l) n) → TranslatedC (while n a b) s u c h (Ok tt)
+      → TranslatedC b s u e f (Ok tt) → Added f g (one (Jump m) n) (suc (f .count)) → l ≡ g .count → Aimed g h k (word (JumpFalse l) n) → TranslatedC (while n a b) s u c h (Ok tt)
   unfolding namesC
   while-done {m = m} w p x A q B z X =
       let sc = visible s in
@@ -109,7 +120,8 @@ module _ (n : ℕ) (a : Expression) (b : Command) {s u : Scope} {c d e f g h : C
       record {
         answer = second (p .answer) (q .answer);
         wrote = subst (T (suc (behindC b at-b))) w (subst (λ (v : ℕ). T v m) (z ∙ B′ .end) (jumped (p .wrote) x A (added-then q′ B′) X));
-        same = q .same }
+        same = q .same;
+      }
 
 module _ (n : ℕ) (a : Declaration) (b : Command) {s u v w : Scope} {c d e f g : Code} where
   pub block-done : Added c d (one Enter n) (suc (c .count)) → TranslatedD a s u d e (Ok tt) → TranslatedC b u v e f (Ok tt) → Added f g (one Leave n) (suc (f .count)) → Same s w → TranslatedC (block n a b) s w c g (Ok tt)
@@ -120,7 +132,8 @@ module _ (n : ℕ) (a : Declaration) (b : Command) {s u v w : Scope} {c d e f g 
       record {
         answer = second (p .answer) (verdict-C (p .declared .0) q);
         wrote = added-then A (added-then p′ (added-then q′ (step (q′ .end) B)));
-        same = m }
+        same = m;
+      }
 
 module _ (n : ℕ) (a b : Command) {s u v : Scope} {c d e : Code} where
   pub sequence-done : TranslatedC a s u c d (Ok tt) → TranslatedC b u v d e (Ok tt) → TranslatedC (sequence n a b) s v c e (Ok tt)
@@ -128,4 +141,5 @@ module _ (n : ℕ) (a b : Command) {s u v : Scope} {c d e : Code} where
   sequence-done p q = record {
     answer = second (p .answer) (verdict-C (p .same .seen) q);
     wrote = added-then (p .wrote) (at-C (p .same .seen) (p .wrote .end) q);
-    same = same-trans (p .same) (q .same) }
+    same = same-trans (p .same) (q .same);
+  }

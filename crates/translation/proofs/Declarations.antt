@@ -1,7 +1,7 @@
 -- Each form of declaration, from its parts.
 use mathlib.Core.Path.{_≡_, refl, sym, ap, subst, _∙_}
 use mathlib.Core.List.{List, _∷_, _++_}
-use Prim.Native.Nat.{ℕ, suc, _+_, _≤_}
+use Prim.Native.Nat.{ℕ, suc, _+_}
 use native.Mathlib.Omega.{arith}
 use Rattle.std.specs.declared.result.Result.the-variants.{Ok, Err}
 use Rattle.vocabulary.specs.declared.code.Instruction.{Instruction}
@@ -12,17 +12,16 @@ use Rattle.vocabulary.specs.Refusals.{Verdict}
 use Rattle.language.specs.declared.name.Entry.{Entry}
 use Rattle.language.specs.declared.name.Role.the-variants.{Value, Procedure, Function}
 use Rattle.language.specs.Names.{namesE, namesD}
-use Rattle.language.specs.Scope.{entry, scopeAfter, scopeInside}
-use Rattle.language.specs.Translation.{one, word, codeE, codeC, codeD, behindE, behindC, behindD}
-use Rattle.language.specs.Tree.{Expression, Command, Declaration, sizeE, sizeC, sizeD}
+use Rattle.language.specs.Scope.{entry, scopeAfter}
+use Rattle.language.specs.Translation.{one, word, codeE, codeD, behindE, behindD}
+use Rattle.language.specs.Tree.{Expression, Command, Declaration}
 use Rattle.language.specs.Tree.Declaration.{constant, variable, procedure, function, pair}
 use Rattle.translation.specs.declared.tables.Code.{Code}
 use Rattle.translation.specs.declared.tables.Scope.{Scope}
 use Rattle.translation.specs.Held.{visible, Added, Aimed, Bound, Older, Same}
 use Rattle.translation.specs.Translated.{Wrote, Declared, TranslatedE, TranslatedPlain, TranslatedC, TranslatedD}
 use Rattle.translation.proofs.Commands.{at-C, at-D, verdict-C, verdict-D}
-use Rattle.translation.proofs.Expressions.{at-E, second}
-use Rattle.translation.proofs.Rooms.{some-E}
+use Rattle.translation.proofs.Expressions.{some-E, at-E, second}
 use Rattle.translation.proofs.Scopes.{older-trans, older-same}
 use Rattle.translation.proofs.Writing.{added-then, step, jumped}
 
@@ -35,12 +34,13 @@ refused-D {t} {u} {s} {v} {c} {d} e i h o = record {
   answer = e ∙ h ∙ sym (ap (λ (w : Declaration). namesD w (visible s)) i);
   wrote = subst (λ (w : Verdict). Wrote c d (codeD t (visible s) (c .count)) (behindD t (c .count)) w) (sym e) tt;
   older = o;
-  declared = subst (λ (w : Verdict). Declared s v t w) (sym e) tt }
+  declared = subst (λ (w : Verdict). Declared s v t w) (sym e) tt;
+}
 
 -- the code of a routine around that of its body
 routine : {c d e f g h : Code} {n k l m q r : ℕ} {j : Instruction} {y : List Word} → k ≡ c .count + 2 → Added c d (one (Clos k) n) (suc (c .count)) → l ≡ d .count → Added d e (one j n) (suc (d .count))
-  → q ≡ suc (suc (c .count)) → Added e f y r → Added f g (one Ret n) (suc (f .count)) → m ≡ g .count → Aimed g h l (word (Jump m) n)
-  → Added c h (one (Clos q) n ++ (one (Jump (suc r)) n ++ (y ++ one Ret n))) (suc r)
+    → q ≡ suc (suc (c .count)) → Added e f y r → Added f g (one Ret n) (suc (f .count)) → m ≡ g .count → Aimed g h l (word (Jump m) n)
+    → Added c h (one (Clos q) n ++ (one (Jump (suc r)) n ++ (y ++ one Ret n))) (suc r)
 routine {c} {d} {h = h} {n} {k} {l} {m} {q} {r} {y = y} i A x B j p C z X =
     let C′ = step (p .end) C in
     let T : ℕ → ℕ → Type 0 = λ v w. Added c h (one (Clos v) n ++ (one (Jump w) n ++ (y ++ one Ret n))) (suc r) in
@@ -69,7 +69,8 @@ module _ (n x y : ℕ) {s t u : Scope} {c d e f g h : Code} {k l m : ℕ} {j : I
     answer = verdict-C (b .seen) p;
     wrote = routine i A z B refl (at-C (b .seen) (B .end ∙ ap suc (A .end)) p) C w X;
     older = older-trans (older-same same) (r .older);
-    declared = (r .seen ∙ ap (λ (sc : List Entry). entry x Procedure ∷ sc) (same .seen), omega (arith, r .more, same .count)) }
+    declared = (r .seen ∙ ap (λ (sc : List Entry). entry x Procedure ∷ sc) (same .seen), omega (arith, r .more, same .count));
+  }
 
   pub function-done : (a : Expression) {v : Scope} → TranslatedE a (visible t) e f (Ok tt) → Bound u v (entry x Function) → TranslatedD (function n x a y) s v c h (Ok tt)
   unfolding namesD
@@ -77,7 +78,8 @@ module _ (n x y : ℕ) {s t u : Scope} {c d e f g h : Code} {k l m : ℕ} {j : I
     answer = p .answer ∙ ap (namesE a) (b .seen);
     wrote = routine i A z B refl (subst (λ (sc : List Entry). Added e f (codeE a sc (suc (suc (c .count)))) (behindE a (suc (suc (c .count))))) (b .seen) (at-E (B .end ∙ ap suc (A .end)) p)) C w X;
     older = older-trans (older-same same) (r .older);
-    declared = (r .seen ∙ ap (λ (sc : List Entry). entry x Function ∷ sc) (same .seen), omega (arith, r .more, same .count)) }
+    declared = (r .seen ∙ ap (λ (sc : List Entry). entry x Function ∷ sc) (same .seen), omega (arith, r .more, same .count));
+  }
 
 module _ (n : ℕ) (a b : Declaration) {s u v : Scope} {c d e : Code} where
   pub pair-done : TranslatedD a s u c d (Ok tt) → TranslatedD b u v d e (Ok tt) → TranslatedD (pair n a b) s v c e (Ok tt)
@@ -86,4 +88,5 @@ module _ (n : ℕ) (a b : Declaration) {s u v : Scope} {c d e : Code} where
     answer = second (p .answer) (verdict-D (p .declared .0) q);
     wrote = added-then (p .wrote) (at-D (p .declared .0) (p .wrote .end) q);
     older = older-trans (p .older) (q .older);
-    declared = (q .declared .0 ∙ ap (scopeAfter b) (p .declared .0), omega (arith, p .declared .1, q .declared .1)) }
+    declared = (q .declared .0 ∙ ap (scopeAfter b) (p .declared .0), omega (arith, p .declared .1, q .declared .1));
+  }

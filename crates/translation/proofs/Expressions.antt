@@ -1,17 +1,15 @@
 -- Each form of expression, from its parts.
 use mathlib.Core.Path.{_≡_, refl, sym, ap, subst, _∙_}
-use mathlib.Core.List.{List, [], _∷_, _++_}
+use mathlib.Core.List.{List, [], _++_}
 use Prim.Native.Nat.{ℕ, suc, _+_, _*_, _≤_, _<_}
 use native.Mathlib.Omega.{arith}
 use lib.IntN.{ℤ}
-use lib.ListN.{length}
-use Rattle.std.specs.declared.result.Result.{Result}
+use lib.ListN.{length, length-append}
 use Rattle.std.specs.declared.result.Result.the-variants.{Ok, Err}
 use Rattle.std.specs.Results.{andOther}
 use Rattle.vocabulary.specs.declared.code.Instruction.{Instruction}
-use Rattle.vocabulary.specs.declared.code.Instruction.the-variants.{Num, Truth, Read, Look, Deref, Op, JumpFalse, Jump, Call}
+use Rattle.vocabulary.specs.declared.code.Instruction.the-variants.{Num, Look, Deref, Op, JumpFalse, Jump, Call}
 use Rattle.vocabulary.specs.declared.code.Operation.{Operation}
-use Rattle.vocabulary.specs.declared.code.Word.{Word}
 use Rattle.vocabulary.specs.declared.node.Node.{Node}
 use Rattle.vocabulary.specs.declared.refusal.Refusal.{Refusal}
 use Rattle.vocabulary.specs.Refusals.{Verdict}
@@ -23,15 +21,26 @@ use Rattle.language.specs.Scope.{placeOf}
 use Rattle.language.specs.Sound.{Sound, LowerE}
 use Rattle.language.specs.Translation.{one, word, plainCode, plainEnd, codeE, behindE}
 use Rattle.language.specs.Tree.{Expression, nodeE, sizeE}
-use Rattle.language.specs.Tree.Expression.{number, truth, read, name, operation, functionCall, choice}
+use Rattle.language.specs.Tree.Expression.{number, name, operation, functionCall, choice}
+use Rattle.language.proofs.Lengths.{few-E}
 use Rattle.translation.specs.declared.tables.Code.{Code}
 use Rattle.translation.specs.Held.{Added, Aimed, Resolved}
 use Rattle.translation.specs.Translated.{ReadyE, Wrote, TranslatedE, TranslatedPlain}
-use Rattle.translation.proofs.Writing.{added-then, step, branched}
+use Rattle.translation.proofs.Writing.{added-then, step, branched, counted}
 
 -- a child is ready where its tree has room
 pub ready-E : {nodes : List Node} {n a : ℕ} {d : Code} → Sound nodes → n < length nodes → LowerE nodes n a → d .count + 3 * sizeE (treeE nodes a) ≤ 1537 → ReadyE nodes a d
 ready-E g h (l, s) r = record { sound = g; here = omega arith; sort = s; room = r }
+
+-- three words are room enough for each node
+pub some-E : (t : Expression) → 1 ≤ sizeE t
+some-E t = omega (arith, few-E t [] 0)
+
+pub end-E : {t : Expression} {sc : List Entry} {c d : Code} → TranslatedE t sc c d (Ok tt) → d .count < c .count + 3 * sizeE t
+end-E {t} {sc} {c} q = omega (arith, counted (q .wrote), few-E t sc (c .count))
+
+pub end-plain : {t : Expression} {sc : List Entry} {c d : Code} → TranslatedPlain t sc c d (Ok tt) → d .count ≤ c .count + 3 * sizeE t
+end-plain {t} {sc} {c} q = omega (arith, simp length-append at (counted (q .wrote)), few-E t sc (c .count))
 
 pub same-E : {t u : Expression} {sc : List Entry} {c d : Code} {r : Verdict} → t ≡ u → TranslatedE u sc c d r → TranslatedE t sc c d r
 same-E {sc = sc} {c} {d} {r} e h = subst (λ (x : Expression). TranslatedE x sc c d r) (sym e) h
@@ -58,9 +67,6 @@ pub plain-done : {t : Expression} {sc : List Entry} {c d e : Code} {n : ℕ} →
 plain-done {t} {sc} {c} {d} {e} {n} i p q =
     record { answer = p .answer; wrote = added-then (p .wrote) (subst (λ (k : ℕ). Added d e (one Deref k) (suc (behindE t (c .count)))) (sym i) (step (p .wrote .end) q)) }
 
-pub plain-refused : {t : Expression} {sc : List Entry} {c d : Code} {r : Verdict} {x : Refusal} → r ≡ Err x → Err x ≡ namesE t sc → TranslatedPlain t sc c d r
-plain-refused {t} {sc} {c} {d} {r} {x} e h = record { answer = e ∙ h; wrote = subst (λ (v : Verdict). Wrote c d (plainCode t (codeE t sc (c .count))) (plainEnd t (behindE t (c .count))) v) (sym e) tt }
-
 module _ (n : ℕ) (o : Operation) (a b : Expression) (sc : List Entry) {c d e f : Code} where
   pub operation-done : {k : Operation} → k ≡ o → TranslatedPlain a sc c d (Ok tt) → TranslatedPlain b sc d e (Ok tt) → Added e f (one (Op k) n) (suc (e .count)) → TranslatedE (operation n o a b) sc c f (Ok tt)
   unfolding namesE
@@ -74,12 +80,13 @@ module _ (n f : ℕ) (a : Expression) (sc : List Entry) {c d e : Code} where
   call-done {k} (v, i) p w =
       record {
         answer = second (sym v) (p .answer);
-        wrote = added-then (p .wrote) (subst (λ (j : ℕ). Added d e (one (Call j) n) (suc (behindE a (c .count)))) i (step (p .wrote .end) w)) }
+        wrote = added-then (p .wrote) (subst (λ (j : ℕ). Added d e (one (Call j) n) (suc (behindE a (c .count)))) i (step (p .wrote .end) w));
+      }
 
 module _ (n : ℕ) (a b t : Expression) (sc : List Entry) {c d e f g h i j : Code} where
   pub choice-done : {u w : Instruction} {k k′ l m : ℕ} → TranslatedPlain a sc c d (Ok tt) → k ≡ d .count → Added d e (one u n) (suc (d .count))
-    → TranslatedE b sc e f (Ok tt) → k′ ≡ f .count → Added f g (one w n) (suc (f .count)) → l ≡ g .count → Aimed g h k (word (JumpFalse l) n)
-    → TranslatedE t sc h i (Ok tt) → m ≡ i .count → Aimed i j k′ (word (Jump m) n) → TranslatedE (choice n a b t) sc c j (Ok tt)
+      → TranslatedE b sc e f (Ok tt) → k′ ≡ f .count → Added f g (one w n) (suc (f .count)) → l ≡ g .count → Aimed g h k (word (JumpFalse l) n)
+      → TranslatedE t sc h i (Ok tt) → m ≡ i .count → Aimed i j k′ (word (Jump m) n) → TranslatedE (choice n a b t) sc c j (Ok tt)
   unfolding namesE
   choice-done {m = m} p x A q y B z X r Z Y =
       let q′ = at-E (A .end ∙ ap suc (p .wrote .end)) q in
@@ -90,7 +97,8 @@ module _ (n : ℕ) (a b t : Expression) (sc : List Entry) {c d e f g h i j : Cod
       let T : ℕ → ℕ → Type 0 = λ v w. Added c j (plainCode a (codeE a sc (c .count)) ++ (one (JumpFalse v) n ++ (codeE b sc at-b ++ (one (Jump w) n ++ codeE t sc at-t)))) (behindE t at-t) in
       record {
         answer = second (p .answer) (second (q .answer) (r .answer));
-        wrote = subst (T at-t) (Z ∙ r′ .end) (subst (λ (v : ℕ). T v m) (z ∙ B′ .end) (branched (p .wrote) x A q′ y B′ X r′ Y)) }
+        wrote = subst (T at-t) (Z ∙ r′ .end) (subst (λ (v : ℕ). T v m) (z ∙ B′ .end) (branched (p .wrote) x A q′ y B′ X r′ Y));
+      }
 
 pub name-done : (n x : ℕ) (sc : List Entry) {c d : Code} {k : ℕ} → Resolved n Value (placeOf sc x) (Ok k) → Added c d (one (Look k) n) (suc (c .count)) → TranslatedE (name n x) sc c d (Ok tt)
 unfolding namesE

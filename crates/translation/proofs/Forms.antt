@@ -3,6 +3,7 @@ use mathlib.Core.Path.{_≡_, refl, sym, ap, subst, _∙_}
 use mathlib.Core.List.{List}
 use Prim.Native.Nat.{ℕ, _≤_, _<_}
 use lib.Dec.{eqb}
+use lib.ListN.{length}
 use Rattle.vocabulary.specs.declared.node.Node.{Node}
 use Rattle.language.specs.Tree.{nodeE, nodeC}
 use Rattle.language.specs.Tree.Expression.{number, truth, read, name, operation, functionCall, choice}
@@ -13,11 +14,11 @@ use Rattle.language.specs.Reading.{FormE, FormC, FormD, formE, formC, formD, gr
 use Rattle.language.specs.Reading.FormE.{numberF, truthF, readF, nameF, operationF, functionCallF, choiceF}
 use Rattle.language.specs.Reading.FormC.{assignF, outputF, whenF, whileF, blockF, sequenceF, procedureCallF}
 use Rattle.language.specs.Reading.FormD.{constantF, variableF, procedureF, functionF, pairF}
-use Rattle.language.specs.Sound.{SoundE, SoundC, SoundD}
+use Rattle.language.specs.Sound.{Sound, SoundE, SoundC, SoundD, IsE, IsC}
 use Rattle.translation.specs.declared.tables.Code.{Code}
 use Rattle.translation.specs.declared.tables.Scope.{Scope}
 use Rattle.translation.specs.Translated.{ReadyE, ReadyC, ReadyD}
-use Rattle.translation.proofs.Trees.{treeE-is, treeC-is, treeD-is}
+use Rattle.language.proofs.Trees.{treeE-is, treeC-is, treeD-is}
 
 module _ {ns : List Node} {n m : ℕ} {c : Code} (p : ReadyE ns n c) (e : m ≡ n) where
   kindE : {k : ℕ} → at ns n .kind ≡ k → at ns m .kind ≡ k
@@ -56,19 +57,6 @@ module _ {ns : List Node} {n m : ℕ} {c : Code} (p : ReadyE ns n c) (e : m ≡ 
   unfolding formE
   at-26 i = let j = kindE i in byE (choiceF (at ns m .a) (at ns m .b) (at ns m .c)) (simp j)
 
-  -- a tree carries the number of its node
-  pub numbered-E : nodeE (treeE ns n) ≡ n
-  numbered-E = ap nodeE (treeE-is ns (p .sound) n (p .here) (p .sort)) ∙ ofForm (formE (at ns n))
-    where
-      ofForm : (F : FormE) → nodeE (growE (treeE ns) n F) ≡ n
-      ofForm (numberF v) = refl
-      ofForm (truthF t) = refl
-      ofForm readF = refl
-      ofForm (nameF x) = refl
-      ofForm (operationF o a b) = refl
-      ofForm (functionCallF f a) = refl
-      ofForm (choiceF a b c) = refl
-
 module _ {ns : List Node} {n m : ℕ} {c : Code} {s : Scope} (p : ReadyC ns n c s) (e : m ≡ n) where
   kindC : {k : ℕ} → at ns n .kind ≡ k → at ns m .kind ≡ k
   kindC i = ap (λ (j : ℕ). at ns j .kind) e ∙ i
@@ -106,18 +94,6 @@ module _ {ns : List Node} {n m : ℕ} {c : Code} {s : Scope} (p : ReadyC ns n c 
   unfolding formC
   at-7 i = let j = kindC i in byC (procedureCallF (at ns m .tag) (at ns m .a)) (simp j)
 
-  pub numbered-C : nodeC (treeC ns n) ≡ n
-  numbered-C = ap nodeC (treeC-is ns (p .sound) n (p .here) (p .sort)) ∙ ofForm (formC (at ns n))
-    where
-      ofForm : (F : FormC) → nodeC (growC (treeE ns) (treeC ns) (treeD ns) n F) ≡ n
-      ofForm (assignF a b) = refl
-      ofForm (outputF a) = refl
-      ofForm (whenF a b c) = refl
-      ofForm (whileF a b) = refl
-      ofForm (blockF a b) = refl
-      ofForm (sequenceF a b) = refl
-      ofForm (procedureCallF f a) = refl
-
 module _ {ns : List Node} {n m : ℕ} {c : Code} {s : Scope} (p : ReadyD ns n c s) (e : m ≡ n) where
   kindD : {k : ℕ} → at ns n .kind ≡ k → at ns m .kind ≡ k
   kindD i = ap (λ (j : ℕ). at ns j .kind) e ∙ i
@@ -150,3 +126,28 @@ module _ {ns : List Node} {n m : ℕ} {c : Code} {s : Scope} (p : ReadyD ns n c 
   -- a parameter's name has one byte
   pub parameter : 12 ≤ at ns n .kind → at ns n .kind ≤ 13 → at ns m .c < 256
   parameter l h = subst (λ (j : ℕ). at ns j .c < 256) (sym e) (p .sound .parameters n (p .here) l h)
+
+-- a tree carries the number of its node
+pub numbered-E : (ns : List Node) (g : Sound ns) (n : ℕ) → n < length ns → IsE ns n → nodeE (treeE ns n) ≡ n
+numbered-E ns g n l i = ap nodeE (treeE-is ns g n l i) ∙ of-form (formE (at ns n))
+  where
+    of-form : (F : FormE) → nodeE (growE (treeE ns) n F) ≡ n
+    of-form (numberF v) = refl
+    of-form (truthF t) = refl
+    of-form readF = refl
+    of-form (nameF x) = refl
+    of-form (operationF o a b) = refl
+    of-form (functionCallF f a) = refl
+    of-form (choiceF a b c) = refl
+
+pub numbered-C : (ns : List Node) (g : Sound ns) (n : ℕ) → n < length ns → IsC ns n → nodeC (treeC ns n) ≡ n
+numbered-C ns g n l i = ap nodeC (treeC-is ns g n l i) ∙ of-form (formC (at ns n))
+  where
+    of-form : (F : FormC) → nodeC (growC (treeE ns) (treeC ns) (treeD ns) n F) ≡ n
+    of-form (assignF a b) = refl
+    of-form (outputF a) = refl
+    of-form (whenF a b c) = refl
+    of-form (whileF a b) = refl
+    of-form (blockF a b) = refl
+    of-form (sequenceF a b) = refl
+    of-form (procedureCallF f a) = refl

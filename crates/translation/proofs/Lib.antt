@@ -1,9 +1,8 @@
 pub mod Finding
 pub mod Scopes
-pub mod Trees
 pub mod Forms
 pub mod Writing
-pub mod Rooms
 pub mod Expressions
 pub mod Commands
 pub mod Declarations
+pub mod Programs

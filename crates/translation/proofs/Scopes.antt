@@ -1,7 +1,7 @@
 -- What is visible, over calls and marks.
 use mathlib.Core.Path.{_≡_, refl, sym, ap, _∙_}
-use mathlib.Core.List.{List, [], _∷_}
-use Prim.Native.Nat.{ℕ, suc, _+_, _-_, _≤_}
+use mathlib.Core.List.{List, _∷_}
+use Prim.Native.Nat.{ℕ, suc, _+_, _-_}
 use native.Mathlib.Omega.{arith}
 use lib.ListN.{length, drop}
 use Rattle.vocabulary.specs.Tables.{stack, oldest}
@@ -33,7 +33,8 @@ pub older-trans : {s t u : Scope} → Older s t → Older t u → Older s u
 unfolding visible
 older-trans {s} {t} {u} p q = record {
   count = omega (arith, p .count, q .count);
-  kept = stack-cut (u .entries) (s .count) (t .count) (p .count) ∙ ap (oldest (s .count)) (q .kept) ∙ sym (stack-cut (t .entries) (s .count) (t .count) (p .count)) ∙ p .kept }
+  kept = stack-cut (u .entries) (s .count) (t .count) (p .count) ∙ ap (oldest (s .count)) (q .kept) ∙ sym (stack-cut (t .entries) (s .count) (t .count) (p .count)) ∙ p .kept;
+}
 
 -- a mark restores the count
 pub restored : {s t u : Scope} → Older s t → u .count ≡ s .count → u .entries ≡ t .entries → Same s u

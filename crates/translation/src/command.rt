@@ -1,10 +1,15 @@
+// Commands and declarations, which hold each other: those calls go round in a cycle, and the node number falls.
 ghost use mathlib.Core.Path.{_≡_};
-ghost use Rattle.language.specs.Reading.{treeC};
+ghost use Rattle.language.specs.Reading.{treeC, treeD};
 ghost use Rattle.language.specs.Table.{at};
 ghost use Rattle.translation.specs.Translated.{ReadyC, ReadyD, TranslatedC, TranslatedD};
-ghost use Rattle.language.specs.Reading.{treeD};
-use crate::expression::expression;
 use crate::expression::plain_value;
+use crate::simple::assign;
+use crate::simple::constant;
+use crate::simple::function;
+use crate::simple::output;
+use crate::simple::procedure_call;
+use crate::simple::variable;
 use crate::tables::Code;
 use crate::tables::Mark;
 use crate::tables::Scope;
@@ -28,30 +33,6 @@ pub fn command(nodes: &[Node], n: u16, code: &mut Code, scope: &mut Scope) -> Re
         7 => procedure_call(nodes, n, code, scope),
         _ => unreachable(),
     }
-}
-
-fn assign(nodes: &[Node], n: u16, code: &mut Code, scope: &Scope) -> Result<(), Refusal>
-    requires ready { ⌜ ReadyC (now nodes) n (now code) (now scope) ⌝ }
-    requires kind { ⌜ at (now nodes) n .kind ≡ 1 ⌝ }
-    ensures { λ r. ⌜ TranslatedC (treeC (now (nodes .entry)) n) (now (scope .entry)) (now (scope .entry)) (now (code .entry)) (now (code .exit)) r ⌝ }
-{
-    let node = nodes[usize::from(n)];
-    expression(nodes, node.a, code, scope)?;
-    code.emit(Instruction::IsLoc, n);
-    plain_value(nodes, node.b, code, scope)?;
-    code.emit(Instruction::Store, n);
-    Ok(())
-}
-
-fn output(nodes: &[Node], n: u16, code: &mut Code, scope: &Scope) -> Result<(), Refusal>
-    requires ready { ⌜ ReadyC (now nodes) n (now code) (now scope) ⌝ }
-    requires kind { ⌜ at (now nodes) n .kind ≡ 2 ⌝ }
-    ensures { λ r. ⌜ TranslatedC (treeC (now (nodes .entry)) n) (now (scope .entry)) (now (scope .entry)) (now (code .entry)) (now (code .exit)) r ⌝ }
-{
-    let node = nodes[usize::from(n)];
-    plain_value(nodes, node.a, code, scope)?;
-    code.emit(Instruction::Put, n);
-    Ok(())
 }
 
 fn conditional(nodes: &[Node], n: u16, code: &mut Code, scope: &mut Scope) -> Result<(), Refusal>
@@ -118,18 +99,6 @@ fn sequence(nodes: &[Node], n: u16, code: &mut Code, scope: &mut Scope) -> Resul
     Ok(())
 }
 
-fn procedure_call(nodes: &[Node], n: u16, code: &mut Code, scope: &Scope) -> Result<(), Refusal>
-    requires ready { ⌜ ReadyC (now nodes) n (now code) (now scope) ⌝ }
-    requires kind { ⌜ at (now nodes) n .kind ≡ 7 ⌝ }
-    ensures { λ r. ⌜ TranslatedC (treeC (now (nodes .entry)) n) (now (scope .entry)) (now (scope .entry)) (now (code .entry)) (now (code .exit)) r ⌝ }
-{
-    let node = nodes[usize::from(n)];
-    let newer = scope.resolve(node.tag, Role::Procedure, n)?;
-    expression(nodes, node.a, code, scope)?;
-    code.emit(Instruction::Call(newer), n);
-    Ok(())
-}
-
 // Writes the code of the declaration at node `n`, and makes its names visible.
 fn declaration(nodes: &[Node], n: u16, code: &mut Code, scope: &mut Scope) -> Result<(), Refusal>
     requires { ⌜ ReadyD (now nodes) n (now code) (now scope) ⌝ }
@@ -145,30 +114,6 @@ fn declaration(nodes: &[Node], n: u16, code: &mut Code, scope: &mut Scope) -> Re
     }
 }
 
-fn constant(nodes: &[Node], n: u16, code: &mut Code, scope: &mut Scope) -> Result<(), Refusal>
-    requires ready { ⌜ ReadyD (now nodes) n (now code) (now scope) ⌝ }
-    requires kind { ⌜ at (now nodes) n .kind ≡ 10 ⌝ }
-    ensures { λ r. ⌜ TranslatedD (treeD (now (nodes .entry)) n) (now (scope .entry)) (now (scope .exit)) (now (code .entry)) (now (code .exit)) r ⌝ }
-{
-    let node = nodes[usize::from(n)];
-    plain_value(nodes, node.a, code, scope)?;
-    code.emit(Instruction::Bind, n);
-    scope.bind(node.tag, Role::Value);
-    Ok(())
-}
-
-fn variable(nodes: &[Node], n: u16, code: &mut Code, scope: &mut Scope) -> Result<(), Refusal>
-    requires ready { ⌜ ReadyD (now nodes) n (now code) (now scope) ⌝ }
-    requires kind { ⌜ at (now nodes) n .kind ≡ 11 ⌝ }
-    ensures { λ r. ⌜ TranslatedD (treeD (now (nodes .entry)) n) (now (scope .entry)) (now (scope .exit)) (now (code .entry)) (now (code .exit)) r ⌝ }
-{
-    let node = nodes[usize::from(n)];
-    plain_value(nodes, node.a, code, scope)?;
-    code.emit(Instruction::New, n);
-    scope.bind(node.tag, Role::Value);
-    Ok(())
-}
-
 // The body sees the parameter, and not its own name; the parameter is visible until the body's end.
 fn procedure(nodes: &[Node], n: u16, code: &mut Code, scope: &mut Scope) -> Result<(), Refusal>
     requires ready { ⌜ ReadyD (now nodes) n (now code) (now scope) ⌝ }
@@ -182,7 +127,10 @@ fn procedure(nodes: &[Node], n: u16, code: &mut Code, scope: &mut Scope) -> Resu
     code.emit(Instruction::Jump(0), n);
     {
         let was = scope.count;
-        let mark = Mark { scope: &mut *scope, was };
+        let mark = Mark {
+            scope: &mut *scope,
+            was,
+        };
         mark.scope.bind(node.c as u8, Role::Value);
         command(nodes, node.a, code, mark.scope)?;
     }
@@ -190,30 +138,6 @@ fn procedure(nodes: &[Node], n: u16, code: &mut Code, scope: &mut Scope) -> Resu
     let target = code.here();
     code.aim(past, Instruction::Jump(target), n);
     scope.bind(node.tag, Role::Procedure);
-    Ok(())
-}
-
-// As of a procedure, with an expression as the body.
-fn function(nodes: &[Node], n: u16, code: &mut Code, scope: &mut Scope) -> Result<(), Refusal>
-    requires ready { ⌜ ReadyD (now nodes) n (now code) (now scope) ⌝ }
-    requires kind { ⌜ at (now nodes) n .kind ≡ 13 ⌝ }
-    ensures { λ r. ⌜ TranslatedD (treeD (now (nodes .entry)) n) (now (scope .entry)) (now (scope .exit)) (now (code .entry)) (now (code .exit)) r ⌝ }
-{
-    let node = nodes[usize::from(n)];
-    let start = code.here();
-    code.emit(Instruction::Clos(start + 2), n);
-    let past = code.here();
-    code.emit(Instruction::Jump(0), n);
-    {
-        let was = scope.count;
-        let mark = Mark { scope: &mut *scope, was };
-        mark.scope.bind(node.c as u8, Role::Value);
-        expression(nodes, node.a, code, mark.scope)?;
-    }
-    code.emit(Instruction::Ret, n);
-    let target = code.here();
-    code.aim(past, Instruction::Jump(target), n);
-    scope.bind(node.tag, Role::Function);
     Ok(())
 }
 

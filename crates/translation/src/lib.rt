@@ -3,18 +3,18 @@ ghost use mathlib.Core.Path.{_≡_};
 ghost use mathlib.Core.List.{[]};
 ghost use Prim.Native.Nat.{suc, _<_, _≤_};
 ghost use lib.ListN.{length};
+ghost use Rattle.std.specs.declared.result.Result.the-variants.{Ok};
 ghost use Rattle.language.specs.Names.{sameRole};
 ghost use Rattle.language.specs.Reading.{treeOf};
 ghost use Rattle.language.specs.Scope.{entry, placeOf};
-ghost use Rattle.language.specs.Sound.{Sound, IsC};
-ghost use Rattle.language.specs.Table.{rootOf};
 ghost use Rattle.language.specs.Translation.{one, word};
-ghost use Rattle.language.specs.Tree.{sizeC};
+ghost use Rattle.language.specs.Verdicts.{shapeVerdict};
 ghost use Rattle.translation.specs.Held.{text, visible, Added, Aimed, Bound, Resolved};
 ghost use Rattle.translation.specs.Translated.{ProgramOf};
 
 mod command;
 mod expression;
+mod simple;
 pub mod tables;
 
 use command::command;
@@ -36,7 +36,13 @@ impl Code {
         ensures words { λ r. ⌜ text r ≡ [] ⌝ }
         ensures end { λ r. ⌜ r .count ≡ 0 ⌝ }
     {
-        Code { words: [Word { instruction: Instruction::Halt, node: 0 }; 1537], count: 0 }
+        Code {
+            words: [Word {
+                instruction: Instruction::Halt,
+                node: 0,
+            }; 1537],
+            count: 0,
+        }
     }
 
     // The position of the next word.
@@ -70,7 +76,13 @@ impl Scope {
         ensures seen { λ r. ⌜ visible r ≡ [] ⌝ }
         ensures none { λ r. ⌜ r .count ≡ 0 ⌝ }
     {
-        Scope { entries: [Entry { name: 0, role: Role::Value }; 512], count: 0 }
+        Scope {
+            entries: [Entry {
+                name: 0,
+                role: Role::Value,
+            }; 512],
+            count: 0,
+        }
     }
 
     // Makes a name visible, in front of all others.
@@ -92,7 +104,10 @@ impl Scope {
             i -= 1;
             let entry = self.entries[i];
             if entry.name == name {
-                return Some(Place { newer: (self.count - 1 - i) as u16, role: entry.role });
+                return Some(Place {
+                    newer: (self.count - 1 - i) as u16,
+                    role: entry.role,
+                });
             }
         }
         None
@@ -103,12 +118,18 @@ impl Scope {
         ensures { λ r. ⌜ Resolved node role (placeOf (visible (now (self .entry))) name) r ⌝ }
     {
         let Some(place) = self.find(name) else {
-            return Err(Refusal { cause: Cause::NameNotVisible, node });
+            return Err(Refusal {
+                cause: Cause::NameNotVisible,
+                node,
+            });
         };
         if same(role, place.role) {
             Ok(place.newer)
         } else {
-            Err(Refusal { cause: Cause::NameRole, node })
+            Err(Refusal {
+                cause: Cause::NameRole,
+                node,
+            })
         }
     }
 }
@@ -117,18 +138,18 @@ fn same(wanted: Role, role: Role) -> bool
     ensures { λ r. ⌜ r ≡ sameRole wanted role ⌝ }
 {
     match (wanted, role) {
-        (Role::Value, Role::Value) | (Role::Procedure, Role::Procedure) | (Role::Function, Role::Function) => true,
+        (Role::Value, Role::Value)
+        | (Role::Procedure, Role::Procedure)
+        | (Role::Function, Role::Function) => true,
         _ => false,
     }
 }
 
 // The code of a table whose shape is accepted, or the first fault of its names.
 pub fn translate(nodes: &[Node]) -> Result<Code, Refusal>
-    requires sound { ⌜ Sound (now nodes) ⌝ }
+    requires shape { ⌜ shapeVerdict (now nodes) ≡ Ok tt ⌝ }
     requires some { ⌜ 0 < length (now nodes) ⌝ }
     requires few { ⌜ length (now nodes) ≤ 512 ⌝ }
-    requires root { ⌜ IsC (now nodes) (rootOf (now nodes)) ⌝ }
-    requires size { ⌜ sizeC (treeOf (now nodes)) ≤ 512 ⌝ }
     ensures { λ r. ⌜ ProgramOf (treeOf (now (nodes .entry))) r ⌝ }
 {
     let root = (nodes.len() - 1) as u16;
@@ -137,4 +158,14 @@ pub fn translate(nodes: &[Node]) -> Result<Code, Refusal>
     command(nodes, root, &mut code, &mut scope)?;
     code.emit(Instruction::Halt, root);
     Ok(code)
+}
+
+impl Code {
+    // The words, in the order of their positions.
+    pub fn text(&self) -> &[Word]
+        ensures value { λ r. ⌜ now r ≡ text (now (self .entry)) ⌝ }
+        ensures few { λ r. ⌜ length (now r) ≤ 1537 ⌝ }
+    {
+        &self.words[0..self.count]
+    }
 }

@@ -14,4 +14,4 @@ returns c =
     let n = length (c .args .code .now) in
     let a = c .args .half .«code_at» in
     completed M (codeBytes (c .args .code .now)) (header (c .args .half .nodes) n a (a + 8 * n)) (c .write-header .last .memory) (c .write-entries .last .tail) a (8 * n) (c .pre .start) (c .pre .room) (c .write-entries .ensures)
-      (c .write-header .ensures ∙ ap (λ (h : List ℕ). h ++ drop 16 (putMid a (length M - a) M (c .write-entries .last .tail))) (c .header-bytes .ensures))
+    (c .write-header .ensures ∙ ap (λ (h : List ℕ). h ++ drop 16 (putMid a (length M - a) M (c .write-entries .last .tail))) (c .header-bytes .ensures))

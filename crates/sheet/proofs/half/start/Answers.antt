@@ -17,5 +17,5 @@ returns c =
     let p = archive N (c .args .code .now) in
     let room : leb (sizeOf p) (length M) ≡ true = le-leb (sizeOf p) (length M) (omega arith) in
     let m = started N M (header (length N) 0 0 0) (c .write-header .last .memory) (c .write-entries .last .tail) refl (omega arith)
-        (c .write-header .ensures ∙ ap (λ (h : List ℕ). h ++ drop 16 M) (c .header-bytes .ensures)) (c .write-entries .ensures) in
+    (c .write-header .ensures ∙ ap (λ (h : List ℕ). h ++ drop 16 M) (c .header-bytes .ensures)) (c .write-entries .ensures) in
     record { answer = rw room; memory = rw room m }

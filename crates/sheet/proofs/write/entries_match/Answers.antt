@@ -14,13 +14,13 @@ pub loop-i-again : need.loop-i-again
 loop-i-again g c =
     let m = g .T·Entry in
     match-step (m .encoding) (m .eight) (c .args .part .now) (c .to-bytes-bytes .result) (c .args .entries .now) (c .loop-i .i) (c .index-entries-i .result) (c .loop-i-test .taken)
-      (c .to-bytes-bytes .ensures ∙ ap (m .encoding) (c .index-entries-i .is)) (c .if-not-same-bytes .ensures tt) (c .loop-i .inv)
+    (c .to-bytes-bytes .ensures ∙ ap (m .encoding) (c .index-entries-i .is)) (c .if-not-same-bytes .ensures tt) (c .loop-i .inv)
 
 pub returns-then-not-same-bytes : need.returns-then-not-same-bytes
 returns-then-not-same-bytes g c =
     let m = g .T·Entry in
     match-not (m .encoding) (m .eight) (c .args .part .now) (c .to-bytes-bytes .result) (c .args .entries .now) (c .loop-i .i) (c .index-entries-i .result) (c .loop-i-test .taken)
-      (c .to-bytes-bytes .ensures ∙ ap (m .encoding) (c .index-entries-i .is)) (c .if-not-same-bytes .ensures tt)
+    (c .to-bytes-bytes .ensures ∙ ap (m .encoding) (c .index-entries-i .is)) (c .if-not-same-bytes .ensures tt)
 
 pub returns : need.returns
 returns g c =

@@ -9,7 +9,7 @@ pub loop-i-again : need.loop-i-again
 loop-i-again g c =
     let m = g .T·Entry in
     write-step (m .encoding) (m .eight) (c .args .entries .now) (c .args .tail .now) (c .loop-i .tail) (c .copy-from-slice .last .self) (c .loop-i .i) (c .index-entries-i .result) (c .loop-i-test .taken) (c .loop-i .inv)
-      (c .copy-from-slice .ensures .after ∙ (c .to-bytes-bytes .ensures ∙ ap (m .encoding) (c .index-entries-i .is)))
+    (c .copy-from-slice .ensures .after ∙ (c .to-bytes-bytes .ensures ∙ ap (m .encoding) (c .index-entries-i .is)))
 
 pub returns : need.returns
 returns g c =

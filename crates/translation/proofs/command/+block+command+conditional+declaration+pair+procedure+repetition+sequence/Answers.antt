@@ -1,18 +1,14 @@
-use borrow.Author.Needs.{needs}
-use mathlib.Core.Path.{_≡_, refl, sym, ap, _∙_}
-use Prim.Native.Nat.{ℕ, suc, _+_, _*_, _≤_, _<_}
+use mathlib.Core.Path.{ap, _∙_}
+use Prim.Native.Nat.{_+_}
 use native.Mathlib.Omega.{arith}
-use Rattle.std.specs.declared.result.Result.the-variants.{Ok, Err}
+use Rattle.std.specs.declared.result.Result.the-variants.{Err}
 use Rattle.std.proofs.shelf.Results.{err-from-errBy}
 use Rattle.language.specs.Names.{namesC, namesD}
-use Rattle.language.specs.Reading.{treeE, treeC, treeD}
-use Rattle.language.specs.Table.{at}
 use Rattle.language.specs.Tree.{sizeC, sizeD}
-use Rattle.translation.proofs.Commands.{ready-C, ready-D, same-C, refused-C, verdict-C, verdict-D, when-done, while-done, block-done, sequence-done}
+use Rattle.translation.proofs.Commands.{ready-C, ready-D, end-C, end-D, same-C, refused-C, verdict-C, verdict-D, when-done, while-done, block-done, sequence-done}
 use Rattle.translation.proofs.Declarations.{same-D, refused-D, pair-done, procedure-done}
-use Rattle.translation.proofs.Expressions.{ready-E, first, second}
+use Rattle.translation.proofs.Expressions.{ready-E, end-plain, first, second}
 use Rattle.translation.proofs.Forms.{at-3, at-4, at-5, at-6, at-12, at-14}
-use Rattle.translation.proofs.Rooms.{room-E, room-C, room-D}
 use Rattle.translation.proofs.Scopes.{same-refl, same-trans, older-same, older-trans, restored}
 use Rattle.translation.proofs.Writing.{ahead}
 use Rattle.translation.proofs.command.+block+command+conditional+declaration+pair+procedure+repetition+sequence.Needs as need
@@ -20,8 +16,7 @@ use Rattle.translation.proofs.command.+block+command+conditional+declaration+p
 pub sequence-command-requires : need.sequence-command-requires
 sequence-command-requires t c κs =
     let k = at-6 (c .pre .ready) (c .from .ensures) (c .pre .kind) in
-    let s = ap sizeC (k .0) in
-    (omega (arith, k .1 .0 .0), ready-C (c .pre .ready .sound) (c .pre .ready .here) (k .1 .0) (omega (arith, c .pre .ready .room)) (omega (arith, c .pre .ready .names)))
+    (omega (arith, k .1 .0 .0), ready-C (c .pre .ready .sound) (c .pre .ready .here) (k .1 .0) (omega (arith, c .pre .ready .room, ap sizeC (k .0))) (omega (arith, c .pre .ready .names, ap sizeC (k .0))))
 
 pub sequence-returns-in-Break-command : need.sequence-returns-in-Break-command
 unfolding namesC
@@ -33,10 +28,8 @@ sequence-returns-in-Break-command t c =
 pub sequence-command-requires-2 : need.sequence-command-requires-2
 sequence-command-requires-2 t c κs =
     let k = at-6 (c .pre .ready) (c .from .ensures) (c .pre .kind) in
-    let s = ap sizeC (k .0) in
-    let v = c .in-Continue-command .ensures tt in
-    let r = room-C (treeC (c .args .nodes .now) (at (c .args .nodes .now) (c .from .result) .a)) (c .args .code .now .count) in
-    (omega (arith, k .1 .1 .0), ready-C (c .pre .ready .sound) (c .pre .ready .here) (k .1 .1) (omega (arith, c .pre .ready .room, v .wrote .end)) (omega (arith, c .pre .ready .names, v .same .count)))
+    let v = end-C (c .in-Continue-command .ensures tt) in
+    (omega (arith, k .1 .1 .0), ready-C (c .pre .ready .sound) (c .pre .ready .here) (k .1 .1) (omega (arith, c .pre .ready .room, ap sizeC (k .0))) (omega (arith, c .pre .ready .names, ap sizeC (k .0), c .in-Continue-command .ensures tt .same .count)))
 
 pub sequence-returns-in-Break-command-2 : need.sequence-returns-in-Break-command-2
 unfolding namesC
@@ -54,8 +47,7 @@ sequence-returns t c =
 pub conditional-plain-value-requires : need.conditional-plain-value-requires
 conditional-plain-value-requires t c κs =
     let k = at-3 (c .pre .ready) (c .from .ensures) (c .pre .kind) in
-    let s = ap sizeC (k .0) in
-    ready-E (c .pre .ready .sound) (c .pre .ready .here) (k .1 .0) (omega (arith, c .pre .ready .room))
+    ready-E (c .pre .ready .sound) (c .pre .ready .here) (k .1 .0) (omega (arith, c .pre .ready .room, ap sizeC (k .0)))
 
 pub conditional-returns-in-Break-plain-value : need.conditional-returns-in-Break-plain-value
 unfolding namesC
@@ -67,18 +59,14 @@ conditional-returns-in-Break-plain-value t c =
 pub conditional-emit-requires : need.conditional-emit-requires
 conditional-emit-requires t c κs =
     let k = at-3 (c .pre .ready) (c .from .ensures) (c .pre .kind) in
-    let s = ap sizeC (k .0) in
-    let v = c .in-Continue-plain-value .ensures tt in
-    let r = room-E (treeE (c .args .nodes .now) (at (c .args .nodes .now) (c .from .result) .a)) (c .args .code .now .count) in
-    omega (arith, c .pre .ready .room, v .wrote .end)
+    let v = end-plain (c .in-Continue-plain-value .ensures tt) in
+    omega (arith, c .pre .ready .room, ap sizeC (k .0))
 
 pub conditional-command-requires : need.conditional-command-requires
 conditional-command-requires t c κs =
     let k = at-3 (c .pre .ready) (c .from .ensures) (c .pre .kind) in
-    let s = ap sizeC (k .0) in
-    let v = c .in-Continue-plain-value .ensures tt in
-    let r = room-E (treeE (c .args .nodes .now) (at (c .args .nodes .now) (c .from .result) .a)) (c .args .code .now .count) in
-    (omega (arith, k .1 .1 .0), ready-C (c .pre .ready .sound) (c .pre .ready .here) (k .1 .1) (omega (arith, c .pre .ready .room, v .wrote .end, c .emit .ensures .end)) (omega (arith, c .pre .ready .names)))
+    let v = end-plain (c .in-Continue-plain-value .ensures tt) in
+    (omega (arith, k .1 .1 .0), ready-C (c .pre .ready .sound) (c .pre .ready .here) (k .1 .1) (omega (arith, c .pre .ready .room, ap sizeC (k .0), c .emit .ensures .end)) (omega (arith, c .pre .ready .names, ap sizeC (k .0))))
 
 pub conditional-returns-in-Break-command : need.conditional-returns-in-Break-command
 unfolding namesC
@@ -90,12 +78,9 @@ conditional-returns-in-Break-command t c =
 pub conditional-emit-requires-2 : need.conditional-emit-requires-2
 conditional-emit-requires-2 t c κs =
     let k = at-3 (c .pre .ready) (c .from .ensures) (c .pre .kind) in
-    let s = ap sizeC (k .0) in
-    let v = c .in-Continue-plain-value .ensures tt in
-    let r = room-E (treeE (c .args .nodes .now) (at (c .args .nodes .now) (c .from .result) .a)) (c .args .code .now .count) in
-    let w = c .in-Continue-command .ensures tt in
-    let q = room-C (treeC (c .args .nodes .now) (at (c .args .nodes .now) (c .from .result) .b)) (c .emit .last .self .count) in
-    omega (arith, c .pre .ready .room, v .wrote .end, c .emit .ensures .end, w .wrote .end)
+    let v = end-plain (c .in-Continue-plain-value .ensures tt) in
+    let w = end-C (c .in-Continue-command .ensures tt) in
+    omega (arith, c .pre .ready .room, ap sizeC (k .0), c .emit .ensures .end)
 
 pub conditional-aim-requires : need.conditional-aim-requires
 conditional-aim-requires t c κs =
@@ -105,12 +90,9 @@ conditional-aim-requires t c κs =
 pub conditional-command-requires-2 : need.conditional-command-requires-2
 conditional-command-requires-2 t c κs =
     let k = at-3 (c .pre .ready) (c .from .ensures) (c .pre .kind) in
-    let s = ap sizeC (k .0) in
-    let v = c .in-Continue-plain-value .ensures tt in
-    let r = room-E (treeE (c .args .nodes .now) (at (c .args .nodes .now) (c .from .result) .a)) (c .args .code .now .count) in
-    let w = c .in-Continue-command .ensures tt in
-    let q = room-C (treeC (c .args .nodes .now) (at (c .args .nodes .now) (c .from .result) .b)) (c .emit .last .self .count) in
-    (omega (arith, k .1 .2 .0), ready-C (c .pre .ready .sound) (c .pre .ready .here) (k .1 .2) (omega (arith, c .pre .ready .room, v .wrote .end, c .emit .ensures .end, w .wrote .end, c .emit-2 .ensures .end, c .aim .ensures .end)) (omega (arith, c .pre .ready .names, w .same .count)))
+    let v = end-plain (c .in-Continue-plain-value .ensures tt) in
+    let w = end-C (c .in-Continue-command .ensures tt) in
+    (omega (arith, k .1 .2 .0), ready-C (c .pre .ready .sound) (c .pre .ready .here) (k .1 .2) (omega (arith, c .pre .ready .room, ap sizeC (k .0), c .emit .ensures .end, c .emit-2 .ensures .end, c .aim .ensures .end)) (omega (arith, c .pre .ready .names, ap sizeC (k .0), c .in-Continue-command .ensures tt .same .count)))
 
 pub conditional-returns-in-Break-command-2 : need.conditional-returns-in-Break-command-2
 unfolding namesC
@@ -133,8 +115,7 @@ conditional-returns t c =
 pub repetition-plain-value-requires : need.repetition-plain-value-requires
 repetition-plain-value-requires t c κs =
     let k = at-4 (c .pre .ready) (c .from .ensures) (c .pre .kind) in
-    let s = ap sizeC (k .0) in
-    ready-E (c .pre .ready .sound) (c .pre .ready .here) (k .1 .0) (omega (arith, c .pre .ready .room))
+    ready-E (c .pre .ready .sound) (c .pre .ready .here) (k .1 .0) (omega (arith, c .pre .ready .room, ap sizeC (k .0)))
 
 pub repetition-returns-in-Break-plain-value : need.repetition-returns-in-Break-plain-value
 unfolding namesC
@@ -146,18 +127,14 @@ repetition-returns-in-Break-plain-value t c =
 pub repetition-emit-requires : need.repetition-emit-requires
 repetition-emit-requires t c κs =
     let k = at-4 (c .pre .ready) (c .from .ensures) (c .pre .kind) in
-    let s = ap sizeC (k .0) in
-    let v = c .in-Continue-plain-value .ensures tt in
-    let r = room-E (treeE (c .args .nodes .now) (at (c .args .nodes .now) (c .from .result) .a)) (c .args .code .now .count) in
-    omega (arith, c .pre .ready .room, v .wrote .end)
+    let v = end-plain (c .in-Continue-plain-value .ensures tt) in
+    omega (arith, c .pre .ready .room, ap sizeC (k .0))
 
 pub repetition-command-requires : need.repetition-command-requires
 repetition-command-requires t c κs =
     let k = at-4 (c .pre .ready) (c .from .ensures) (c .pre .kind) in
-    let s = ap sizeC (k .0) in
-    let v = c .in-Continue-plain-value .ensures tt in
-    let r = room-E (treeE (c .args .nodes .now) (at (c .args .nodes .now) (c .from .result) .a)) (c .args .code .now .count) in
-    (omega (arith, k .1 .1 .0), ready-C (c .pre .ready .sound) (c .pre .ready .here) (k .1 .1) (omega (arith, c .pre .ready .room, v .wrote .end, c .emit .ensures .end)) (omega (arith, c .pre .ready .names)))
+    let v = end-plain (c .in-Continue-plain-value .ensures tt) in
+    (omega (arith, k .1 .1 .0), ready-C (c .pre .ready .sound) (c .pre .ready .here) (k .1 .1) (omega (arith, c .pre .ready .room, ap sizeC (k .0), c .emit .ensures .end)) (omega (arith, c .pre .ready .names, ap sizeC (k .0))))
 
 pub repetition-returns-in-Break-command : need.repetition-returns-in-Break-command
 unfolding namesC
@@ -169,12 +146,9 @@ repetition-returns-in-Break-command t c =
 pub repetition-emit-requires-2 : need.repetition-emit-requires-2
 repetition-emit-requires-2 t c κs =
     let k = at-4 (c .pre .ready) (c .from .ensures) (c .pre .kind) in
-    let s = ap sizeC (k .0) in
-    let v = c .in-Continue-plain-value .ensures tt in
-    let r = room-E (treeE (c .args .nodes .now) (at (c .args .nodes .now) (c .from .result) .a)) (c .args .code .now .count) in
-    let w = c .in-Continue-command .ensures tt in
-    let q = room-C (treeC (c .args .nodes .now) (at (c .args .nodes .now) (c .from .result) .b)) (c .emit .last .self .count) in
-    omega (arith, c .pre .ready .room, v .wrote .end, c .emit .ensures .end, w .wrote .end)
+    let v = end-plain (c .in-Continue-plain-value .ensures tt) in
+    let w = end-C (c .in-Continue-command .ensures tt) in
+    omega (arith, c .pre .ready .room, ap sizeC (k .0), c .emit .ensures .end)
 
 pub repetition-aim-requires : need.repetition-aim-requires
 repetition-aim-requires t c κs =
@@ -189,14 +163,12 @@ repetition-returns t c =
 pub block-emit-requires : need.block-emit-requires
 block-emit-requires t c κs =
     let k = at-5 (c .pre .ready) (c .from .ensures) (c .pre .kind) in
-    let s = ap sizeC (k .0) in
-    omega (arith, c .pre .ready .room)
+    omega (arith, c .pre .ready .room, ap sizeC (k .0))
 
 pub block-declaration-requires : need.block-declaration-requires
 block-declaration-requires t c κs =
     let k = at-5 (c .pre .ready) (c .from .ensures) (c .pre .kind) in
-    let s = ap sizeC (k .0) in
-    (omega (arith, k .1 .0 .0), ready-D (c .pre .ready .sound) (c .pre .ready .here) (k .1 .0) (omega (arith, c .pre .ready .room, c .emit .ensures .end)) (omega (arith, c .pre .ready .names)))
+    (omega (arith, k .1 .0 .0), ready-D (c .pre .ready .sound) (c .pre .ready .here) (k .1 .0) (omega (arith, c .pre .ready .room, ap sizeC (k .0), c .emit .ensures .end)) (omega (arith, c .pre .ready .names, ap sizeC (k .0))))
 
 pub block-returns-in-Break-declaration : need.block-returns-in-Break-declaration
 unfolding namesC
@@ -208,10 +180,8 @@ block-returns-in-Break-declaration t c =
 pub block-command-requires : need.block-command-requires
 block-command-requires t c κs =
     let k = at-5 (c .pre .ready) (c .from .ensures) (c .pre .kind) in
-    let s = ap sizeC (k .0) in
-    let v = c .in-Continue-declaration .ensures tt in
-    let r = room-D (treeD (c .args .nodes .now) (at (c .args .nodes .now) (c .from .result) .a)) (c .emit .last .self .count) in
-    (omega (arith, k .1 .1 .0), ready-C (c .pre .ready .sound) (c .pre .ready .here) (k .1 .1) (omega (arith, c .pre .ready .room, c .emit .ensures .end, v .wrote .end)) (omega (arith, c .pre .ready .names, v .declared .1)))
+    let v = end-D (c .in-Continue-declaration .ensures tt) in
+    (omega (arith, k .1 .1 .0), ready-C (c .pre .ready .sound) (c .pre .ready .here) (k .1 .1) (omega (arith, c .pre .ready .room, ap sizeC (k .0), c .emit .ensures .end)) (omega (arith, c .pre .ready .names, ap sizeC (k .0), c .in-Continue-declaration .ensures tt .declared .1)))
 
 pub block-returns-in-Break-command : need.block-returns-in-Break-command
 unfolding namesC
@@ -224,12 +194,9 @@ block-returns-in-Break-command t c =
 pub block-emit-requires-2 : need.block-emit-requires-2
 block-emit-requires-2 t c κs =
     let k = at-5 (c .pre .ready) (c .from .ensures) (c .pre .kind) in
-    let s = ap sizeC (k .0) in
-    let v = c .in-Continue-declaration .ensures tt in
-    let r = room-D (treeD (c .args .nodes .now) (at (c .args .nodes .now) (c .from .result) .a)) (c .emit .last .self .count) in
-    let w = c .in-Continue-command .ensures tt in
-    let q = room-C (treeC (c .args .nodes .now) (at (c .args .nodes .now) (c .from .result) .b)) (c .declaration .last .code .count) in
-    omega (arith, c .pre .ready .room, c .emit .ensures .end, v .wrote .end, w .wrote .end)
+    let v = end-D (c .in-Continue-declaration .ensures tt) in
+    let w = end-C (c .in-Continue-command .ensures tt) in
+    omega (arith, c .pre .ready .room, ap sizeC (k .0), c .emit .ensures .end)
 
 pub block-returns : need.block-returns
 block-returns t c =
@@ -239,8 +206,7 @@ block-returns t c =
 pub pair-declaration-requires : need.pair-declaration-requires
 pair-declaration-requires t c κs =
     let k = at-14 (c .pre .ready) (c .from .ensures) (c .pre .kind) in
-    let s = ap sizeD (k .0) in
-    (omega (arith, k .1 .0 .0), ready-D (c .pre .ready .sound) (c .pre .ready .here) (k .1 .0) (omega (arith, c .pre .ready .room)) (omega (arith, c .pre .ready .names)))
+    (omega (arith, k .1 .0 .0), ready-D (c .pre .ready .sound) (c .pre .ready .here) (k .1 .0) (omega (arith, c .pre .ready .room, ap sizeD (k .0))) (omega (arith, c .pre .ready .names, ap sizeD (k .0))))
 
 pub pair-returns-in-Break-declaration : need.pair-returns-in-Break-declaration
 unfolding namesD
@@ -252,10 +218,8 @@ pair-returns-in-Break-declaration t c =
 pub pair-declaration-requires-2 : need.pair-declaration-requires-2
 pair-declaration-requires-2 t c κs =
     let k = at-14 (c .pre .ready) (c .from .ensures) (c .pre .kind) in
-    let s = ap sizeD (k .0) in
-    let v = c .in-Continue-declaration .ensures tt in
-    let r = room-D (treeD (c .args .nodes .now) (at (c .args .nodes .now) (c .from .result) .a)) (c .args .code .now .count) in
-    (omega (arith, k .1 .1 .0), ready-D (c .pre .ready .sound) (c .pre .ready .here) (k .1 .1) (omega (arith, c .pre .ready .room, v .wrote .end)) (omega (arith, c .pre .ready .names, v .declared .1)))
+    let v = end-D (c .in-Continue-declaration .ensures tt) in
+    (omega (arith, k .1 .1 .0), ready-D (c .pre .ready .sound) (c .pre .ready .here) (k .1 .1) (omega (arith, c .pre .ready .room, ap sizeD (k .0))) (omega (arith, c .pre .ready .names, ap sizeD (k .0), c .in-Continue-declaration .ensures tt .declared .1)))
 
 pub pair-returns-in-Break-declaration-2 : need.pair-returns-in-Break-declaration-2
 unfolding namesD
@@ -273,26 +237,22 @@ pair-returns t c =
 pub procedure-emit-requires : need.procedure-emit-requires
 procedure-emit-requires t c κs =
     let k = at-12 (c .pre .ready) (c .from .ensures) (c .pre .kind) in
-    let s = ap sizeD (k .0) in
-    omega (arith, c .pre .ready .room)
+    omega (arith, c .pre .ready .room, ap sizeD (k .0))
 
 pub procedure-emit-requires-2 : need.procedure-emit-requires-2
 procedure-emit-requires-2 t c κs =
     let k = at-12 (c .pre .ready) (c .from .ensures) (c .pre .kind) in
-    let s = ap sizeD (k .0) in
-    omega (arith, c .pre .ready .room, c .emit .ensures .end)
+    omega (arith, c .pre .ready .room, ap sizeD (k .0), c .emit .ensures .end)
 
 pub procedure-bind-requires : need.procedure-bind-requires
 procedure-bind-requires t c κs =
     let k = at-12 (c .pre .ready) (c .from .ensures) (c .pre .kind) in
-    let s = ap sizeD (k .0) in
-    omega (arith, c .pre .ready .names)
+    omega (arith, c .pre .ready .names, ap sizeD (k .0))
 
 pub procedure-command-requires : need.procedure-command-requires
 procedure-command-requires t c κs =
     let k = at-12 (c .pre .ready) (c .from .ensures) (c .pre .kind) in
-    let s = ap sizeD (k .0) in
-    (omega (arith, k .1 .0), ready-C (c .pre .ready .sound) (c .pre .ready .here) (k .1) (omega (arith, c .pre .ready .room, c .emit .ensures .end, c .emit-2 .ensures .end)) (omega (arith, c .pre .ready .names, c .bind .ensures .more)))
+    (omega (arith, k .1 .0), ready-C (c .pre .ready .sound) (c .pre .ready .here) (k .1) (omega (arith, c .pre .ready .room, ap sizeD (k .0), c .emit .ensures .end, c .emit-2 .ensures .end)) (omega (arith, c .pre .ready .names, ap sizeD (k .0), c .bind .ensures .more)))
 
 pub procedure-returns-in-Break-command : need.procedure-returns-in-Break-command
 unfolding namesD
@@ -304,10 +264,8 @@ procedure-returns-in-Break-command t c =
 pub procedure-emit-requires-3 : need.procedure-emit-requires-3
 procedure-emit-requires-3 t c κs =
     let k = at-12 (c .pre .ready) (c .from .ensures) (c .pre .kind) in
-    let s = ap sizeD (k .0) in
-    let v = c .in-Continue-command .ensures tt in
-    let r = room-C (treeC (c .args .nodes .now) (at (c .args .nodes .now) (c .from .result) .a)) (c .emit-2 .last .self .count) in
-    omega (arith, c .pre .ready .room, c .emit .ensures .end, c .emit-2 .ensures .end, v .wrote .end)
+    let v = end-C (c .in-Continue-command .ensures tt) in
+    omega (arith, c .pre .ready .room, ap sizeD (k .0), c .emit .ensures .end, c .emit-2 .ensures .end)
 
 pub procedure-aim-requires : need.procedure-aim-requires
 procedure-aim-requires t c κs =

@@ -1,41 +1,37 @@
 use borrow.Author.Needs.{needs}
-use mathlib.Core.Path.{_≡_, refl, sym, ap, _∙_}
-use Prim.Native.Nat.{ℕ, suc, _+_, _*_, _≤_, _<_}
+use mathlib.Core.Path.{refl, sym, ap, _∙_}
 use native.Mathlib.Omega.{arith}
-use Rattle.std.specs.declared.result.Result.the-variants.{Ok, Err}
+use Rattle.std.specs.declared.result.Result.the-variants.{Err}
 use mir.Syntax.{w32}
 use mir.Val.{SFits}
 use Rattle.std.proofs.shelf.Results.{err-from-errBy}
 use Rattle.std.proofs.shelf.Signed.{toZ-ofZ}
 use Rattle.language.specs.Names.{namesE}
 use Rattle.language.specs.Reading.{treeE}
-use Rattle.language.specs.Table.{at}
 use Rattle.language.specs.Tree.{sizeE}
-use Rattle.translation.proofs.Expressions.{ready-E, same-E, refused-E, plain-done, first, second, number-done, name-done, operation-done, call-done, choice-done}
+use Rattle.translation.proofs.Expressions.{ready-E, some-E, end-E, end-plain, same-E, refused-E, plain-done, first, second, number-done, name-done, operation-done, call-done, choice-done}
 use Rattle.translation.proofs.Forms.{at-20, at-21, at-22, at-23, at-24, at-25, at-26, numbered-E}
-use Rattle.translation.proofs.Rooms.{room-E, some-E}
 use Rattle.translation.proofs.Writing.{ahead}
 use Rattle.translation.proofs.expression.+choice+expression+plain_value.Needs as need
 
 pub plain-value-emit-requires : need.plain-value-emit-requires
 plain-value-emit-requires t c κs =
-    let r = room-E (treeE (c .args .nodes .now) (c .args .n)) (c .args .code .now .count) in
-    omega (arith, c .pre .room, c .in-Continue-expression .ensures tt .wrote .end)
+    omega (arith, c .pre .room, end-E (c .in-Continue-expression .ensures tt))
 
 pub plain-value-returns : need.plain-value-returns
-plain-value-returns t c = plain-done (numbered-E (c .pre) refl) (c .in-Continue-expression .ensures tt) (c .emit .ensures)
+plain-value-returns t c = plain-done (numbered-E _ (c .pre .sound) _ (c .pre .here) (c .pre .sort)) (c .in-Continue-expression .ensures tt) (c .emit .ensures)
 
 pub expression-emit-requires : need.expression-emit-requires
-expression-emit-requires t c κs = let s = some-E (treeE (c .args .nodes .now) (c .args .n)) in omega (arith, c .pre .room)
+expression-emit-requires t c κs = omega (arith, c .pre .room, some-E (treeE (c .args .nodes .now) (c .args .n)))
 
 pub expression-emit-requires-in-21 : need.expression-emit-requires-in-21
-expression-emit-requires-in-21 t c κs = let s = some-E (treeE (c .args .nodes .now) (c .args .n)) in omega (arith, c .pre .room)
+expression-emit-requires-in-21 t c κs = omega (arith, c .pre .room, some-E (treeE (c .args .nodes .now) (c .args .n)))
 
 pub expression-emit-requires-in-22 : need.expression-emit-requires-in-22
-expression-emit-requires-in-22 t c κs = let s = some-E (treeE (c .args .nodes .now) (c .args .n)) in omega (arith, c .pre .room)
+expression-emit-requires-in-22 t c κs = omega (arith, c .pre .room, some-E (treeE (c .args .nodes .now) (c .args .n)))
 
 pub expression-emit-requires-in-23 : need.expression-emit-requires-in-23
-expression-emit-requires-in-23 t c κs = let s = some-E (treeE (c .args .nodes .now) (c .args .n)) in omega (arith, c .pre .room)
+expression-emit-requires-in-23 t c κs = omega (arith, c .pre .room, some-E (treeE (c .args .nodes .now) (c .args .n)))
 
 pub expression-returns-in-20 : need.expression-returns-in-20
 expression-returns-in-20 t c =
@@ -70,8 +66,7 @@ expression-returns-in-Continue-newer t c =
 pub expression-plain-value-requires : need.expression-plain-value-requires
 expression-plain-value-requires t c κs =
     let k = at-24 (c .pre) (c .from .ensures) (c .in-24 .is) in
-    let s = ap sizeE (k .0) in
-    (omega (arith, k .1 .0 .0), ready-E (c .pre .sound) (c .pre .here) (k .1 .0) (omega (arith, c .pre .room)))
+    (omega (arith, k .1 .0 .0), ready-E (c .pre .sound) (c .pre .here) (k .1 .0) (omega (arith, c .pre .room, ap sizeE (k .0))))
 
 pub expression-returns-in-Break-plain-value : need.expression-returns-in-Break-plain-value
 unfolding namesE
@@ -83,10 +78,8 @@ expression-returns-in-Break-plain-value t c =
 pub expression-plain-value-requires-in-24 : need.expression-plain-value-requires-in-24
 expression-plain-value-requires-in-24 t c κs =
     let k = at-24 (c .pre) (c .from .ensures) (c .in-24 .is) in
-    let s = ap sizeE (k .0) in
-    let v = c .in-Continue-plain-value .ensures tt in
-    let r = room-E (treeE (c .args .nodes .now) (at (c .args .nodes .now) (c .from .result) .a)) (c .args .code .now .count) in
-    (omega (arith, k .1 .1 .0), ready-E (c .pre .sound) (c .pre .here) (k .1 .1) (omega (arith, c .pre .room, v .wrote .end)))
+    let v = end-plain (c .in-Continue-plain-value .ensures tt) in
+    (omega (arith, k .1 .1 .0), ready-E (c .pre .sound) (c .pre .here) (k .1 .1) (omega (arith, c .pre .room, ap sizeE (k .0))))
 
 pub expression-returns-in-Break-plain-value-2 : need.expression-returns-in-Break-plain-value-2
 unfolding namesE
@@ -98,12 +91,9 @@ expression-returns-in-Break-plain-value-2 t c =
 pub expression-emit-requires-in-24 : need.expression-emit-requires-in-24
 expression-emit-requires-in-24 t c κs =
     let k = at-24 (c .pre) (c .from .ensures) (c .in-24 .is) in
-    let s = ap sizeE (k .0) in
-    let v = c .in-Continue-plain-value .ensures tt in
-    let w = c .in-Continue-plain-value-2 .ensures tt in
-    let r = room-E (treeE (c .args .nodes .now) (at (c .args .nodes .now) (c .from .result) .a)) (c .args .code .now .count) in
-    let q = room-E (treeE (c .args .nodes .now) (at (c .args .nodes .now) (c .from .result) .b)) (c .plain-value .last .code .count) in
-    omega (arith, c .pre .room, v .wrote .end, w .wrote .end)
+    let v = end-plain (c .in-Continue-plain-value .ensures tt) in
+    let w = end-plain (c .in-Continue-plain-value-2 .ensures tt) in
+    omega (arith, c .pre .room, ap sizeE (k .0))
 
 pub expression-returns-in-Continue-plain-value-2 : need.expression-returns-in-Continue-plain-value-2
 expression-returns-in-Continue-plain-value-2 t c =
@@ -120,8 +110,7 @@ expression-returns-in-Break-newer-2 t c =
 pub expression-expression-requires : need.expression-expression-requires
 expression-expression-requires t c κs =
     let k = at-25 (c .pre) (c .from .ensures) (c .in-25 .is) in
-    let s = ap sizeE (k .0) in
-    (omega (arith, k .1 .0), ready-E (c .pre .sound) (c .pre .here) (k .1) (omega (arith, c .pre .room)))
+    (omega (arith, k .1 .0), ready-E (c .pre .sound) (c .pre .here) (k .1) (omega (arith, c .pre .room, ap sizeE (k .0))))
 
 pub expression-returns-in-Break-expression : need.expression-returns-in-Break-expression
 unfolding namesE
@@ -133,10 +122,8 @@ expression-returns-in-Break-expression t c =
 pub expression-emit-requires-in-25 : need.expression-emit-requires-in-25
 expression-emit-requires-in-25 t c κs =
     let k = at-25 (c .pre) (c .from .ensures) (c .in-25 .is) in
-    let s = ap sizeE (k .0) in
-    let v = c .in-Continue-expression .ensures tt in
-    let r = room-E (treeE (c .args .nodes .now) (at (c .args .nodes .now) (c .from .result) .a)) (c .args .code .now .count) in
-    omega (arith, c .pre .room, v .wrote .end)
+    let v = end-E (c .in-Continue-expression .ensures tt) in
+    omega (arith, c .pre .room, ap sizeE (k .0))
 
 pub expression-returns-in-Continue-expression : need.expression-returns-in-Continue-expression
 expression-returns-in-Continue-expression t c =
@@ -146,8 +133,7 @@ expression-returns-in-Continue-expression t c =
 pub choice-plain-value-requires : need.choice-plain-value-requires
 choice-plain-value-requires t c κs =
     let k = at-26 (c .pre .ready) (c .from .ensures) (c .pre .kind) in
-    let s = ap sizeE (k .0) in
-    (omega (arith, k .1 .0 .0), ready-E (c .pre .ready .sound) (c .pre .ready .here) (k .1 .0) (omega (arith, c .pre .ready .room)))
+    (omega (arith, k .1 .0 .0), ready-E (c .pre .ready .sound) (c .pre .ready .here) (k .1 .0) (omega (arith, c .pre .ready .room, ap sizeE (k .0))))
 
 pub choice-returns-in-Break-plain-value : need.choice-returns-in-Break-plain-value
 unfolding namesE
@@ -173,28 +159,21 @@ choice-returns-in-Break-expression-2 t c =
 pub choice-emit-requires : need.choice-emit-requires
 choice-emit-requires t c κs =
     let k = at-26 (c .pre .ready) (c .from .ensures) (c .pre .kind) in
-    let s = ap sizeE (k .0) in
-    let v = c .in-Continue-plain-value .ensures tt in
-    let r = room-E (treeE (c .args .nodes .now) (at (c .args .nodes .now) (c .from .result) .a)) (c .args .code .now .count) in
-    omega (arith, c .pre .ready .room, v .wrote .end)
+    let v = end-plain (c .in-Continue-plain-value .ensures tt) in
+    omega (arith, c .pre .ready .room, ap sizeE (k .0))
 
 pub choice-expression-requires : need.choice-expression-requires
 choice-expression-requires t c κs =
     let k = at-26 (c .pre .ready) (c .from .ensures) (c .pre .kind) in
-    let s = ap sizeE (k .0) in
-    let v = c .in-Continue-plain-value .ensures tt in
-    let r = room-E (treeE (c .args .nodes .now) (at (c .args .nodes .now) (c .from .result) .a)) (c .args .code .now .count) in
-    (omega (arith, k .1 .1 .0), ready-E (c .pre .ready .sound) (c .pre .ready .here) (k .1 .1) (omega (arith, c .pre .ready .room, v .wrote .end, c .emit .ensures .end)))
+    let v = end-plain (c .in-Continue-plain-value .ensures tt) in
+    (omega (arith, k .1 .1 .0), ready-E (c .pre .ready .sound) (c .pre .ready .here) (k .1 .1) (omega (arith, c .pre .ready .room, ap sizeE (k .0), c .emit .ensures .end)))
 
 pub choice-emit-requires-2 : need.choice-emit-requires-2
 choice-emit-requires-2 t c κs =
     let k = at-26 (c .pre .ready) (c .from .ensures) (c .pre .kind) in
-    let s = ap sizeE (k .0) in
-    let v = c .in-Continue-plain-value .ensures tt in
-    let r = room-E (treeE (c .args .nodes .now) (at (c .args .nodes .now) (c .from .result) .a)) (c .args .code .now .count) in
-    let w = c .in-Continue-expression .ensures tt in
-    let q = room-E (treeE (c .args .nodes .now) (at (c .args .nodes .now) (c .from .result) .b)) (c .emit .last .self .count) in
-    omega (arith, c .pre .ready .room, v .wrote .end, c .emit .ensures .end, w .wrote .end)
+    let v = end-plain (c .in-Continue-plain-value .ensures tt) in
+    let w = end-E (c .in-Continue-expression .ensures tt) in
+    omega (arith, c .pre .ready .room, ap sizeE (k .0), c .emit .ensures .end)
 
 pub choice-aim-requires : need.choice-aim-requires
 choice-aim-requires t c κs = let g = ahead (c .in-Continue-expression .ensures tt .wrote) in omega (arith, c .here-past .ensures, c .emit .ensures .end, c .emit-2 .ensures .end)
@@ -202,12 +181,9 @@ choice-aim-requires t c κs = let g = ahead (c .in-Continue-expression .ensures 
 pub choice-expression-requires-2 : need.choice-expression-requires-2
 choice-expression-requires-2 t c κs =
     let k = at-26 (c .pre .ready) (c .from .ensures) (c .pre .kind) in
-    let s = ap sizeE (k .0) in
-    let v = c .in-Continue-plain-value .ensures tt in
-    let r = room-E (treeE (c .args .nodes .now) (at (c .args .nodes .now) (c .from .result) .a)) (c .args .code .now .count) in
-    let w = c .in-Continue-expression .ensures tt in
-    let q = room-E (treeE (c .args .nodes .now) (at (c .args .nodes .now) (c .from .result) .b)) (c .emit .last .self .count) in
-    (omega (arith, k .1 .2 .0), ready-E (c .pre .ready .sound) (c .pre .ready .here) (k .1 .2) (omega (arith, c .pre .ready .room, v .wrote .end, c .emit .ensures .end, w .wrote .end, c .emit-2 .ensures .end, c .aim .ensures .end)))
+    let v = end-plain (c .in-Continue-plain-value .ensures tt) in
+    let w = end-E (c .in-Continue-expression .ensures tt) in
+    (omega (arith, k .1 .2 .0), ready-E (c .pre .ready .sound) (c .pre .ready .here) (k .1 .2) (omega (arith, c .pre .ready .room, ap sizeE (k .0), c .emit .ensures .end, c .emit-2 .ensures .end, c .aim .ensures .end)))
 
 pub choice-aim-requires-2 : need.choice-aim-requires-2
 choice-aim-requires-2 t c κs = let g = ahead (c .in-Continue-expression-2 .ensures tt .wrote) in omega (arith, c .here-end .ensures, c .emit-2 .ensures .end, c .aim .ensures .end)

@@ -1,4 +1,3 @@
-use borrow.Author.Needs.{needs}
 use mathlib.Core.Path.{refl}
 use Rattle.vocabulary.specs.Tables.{front}
 use Rattle.translation.specs.Held.{text}

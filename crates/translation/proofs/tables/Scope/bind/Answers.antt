@@ -1,5 +1,4 @@
-use borrow.Author.Needs.{needs}
-use mathlib.Core.Path.{_≡_, _∙_}
+use mathlib.Core.Path.{_∙_}
 use native.Mathlib.Omega.{arith}
 use native.Mathlib.Numerals.{add-one}
 use Rattle.vocabulary.proofs.Tabled.{stack-length}
@@ -20,4 +19,5 @@ returns c =
     record {
       older = record { count = omega (arith, h .counted); kept = stack-below _ _ _ _ _ (h .stacked .1) (h .counted) l };
       seen = h .stacked .1;
-      more = h .counted ∙ add-one _ }
+      more = h .counted ∙ add-one _;
+    }

@@ -1,8 +1,4 @@
-use borrow.Author.Needs.{needs}
-use mathlib.Core.Path.{_≡_, refl, sym, ap, _∙_}
-use Prim.Native.Nat.{_-_, _≤_}
 use native.Mathlib.Omega.{arith}
-use lib.ListN.{length}
 use Rattle.translation.specs.Held.{visible}
 use Rattle.translation.proofs.Finding.{found-here, not-here, found-none, found-start}
 use Rattle.translation.proofs.tables.Scope.find.Needs as need

@@ -1,4 +1,3 @@
-use borrow.Author.Needs.{needs}
 use mathlib.Core.Path.{refl}
 use Rattle.vocabulary.specs.Tables.{stack}
 use Rattle.translation.specs.Held.{visible}

@@ -1,44 +1,36 @@
-use borrow.Author.Needs.{needs}
-use mathlib.Core.Path.{_≡_, refl, sym, ap, _∙_}
-use Prim.Native.Nat.{ℕ, suc, _+_, _*_, _≤_, _<_}
+use mathlib.Core.Path.{ap, _∙_}
+use Prim.Native.Nat.{_+_}
 use native.Mathlib.Omega.{arith}
-use Rattle.std.specs.declared.result.Result.the-variants.{Ok, Err}
+use Rattle.std.specs.declared.result.Result.the-variants.{Err}
 use Rattle.std.proofs.shelf.Results.{err-from-errBy}
 use Rattle.language.specs.Names.{namesE, namesD}
-use Rattle.language.specs.Reading.{treeE, treeC, treeD}
-use Rattle.language.specs.Table.{at}
-use Rattle.language.specs.Tree.{sizeC, sizeD}
+use Rattle.language.specs.Tree.{sizeD}
 use Rattle.translation.proofs.Declarations.{same-D, refused-D, function-done}
-use Rattle.translation.proofs.Expressions.{ready-E}
+use Rattle.translation.proofs.Expressions.{ready-E, end-E}
 use Rattle.translation.proofs.Forms.{at-13}
-use Rattle.translation.proofs.Rooms.{room-E, some-E}
 use Rattle.translation.proofs.Scopes.{older-same, restored}
 use Rattle.translation.proofs.Writing.{ahead}
-use Rattle.translation.proofs.command.function.Needs as need
+use Rattle.translation.proofs.simple.function.Needs as need
 
 pub emit-requires : need.emit-requires
 emit-requires c κs =
     let k = at-13 (c .pre .ready) (c .from .ensures) (c .pre .kind) in
-    let s = ap sizeD (k .0) in
-    omega (arith, c .pre .ready .room)
+    omega (arith, c .pre .ready .room, ap sizeD (k .0))
 
 pub emit-requires-2 : need.emit-requires-2
 emit-requires-2 c κs =
     let k = at-13 (c .pre .ready) (c .from .ensures) (c .pre .kind) in
-    let s = ap sizeD (k .0) in
-    omega (arith, c .pre .ready .room, c .emit .ensures .end)
+    omega (arith, c .pre .ready .room, ap sizeD (k .0), c .emit .ensures .end)
 
 pub bind-requires : need.bind-requires
 bind-requires c κs =
     let k = at-13 (c .pre .ready) (c .from .ensures) (c .pre .kind) in
-    let s = ap sizeD (k .0) in
-    omega (arith, c .pre .ready .names)
+    omega (arith, c .pre .ready .names, ap sizeD (k .0))
 
 pub expression-requires : need.expression-requires
 expression-requires c κs =
     let k = at-13 (c .pre .ready) (c .from .ensures) (c .pre .kind) in
-    let s = ap sizeD (k .0) in
-    ready-E (c .pre .ready .sound) (c .pre .ready .here) (k .1) (omega (arith, c .pre .ready .room, c .emit .ensures .end, c .emit-2 .ensures .end))
+    ready-E (c .pre .ready .sound) (c .pre .ready .here) (k .1) (omega (arith, c .pre .ready .room, ap sizeD (k .0), c .emit .ensures .end, c .emit-2 .ensures .end))
 
 pub returns-in-Break-expression : need.returns-in-Break-expression
 unfolding namesD
@@ -50,10 +42,8 @@ returns-in-Break-expression c =
 pub emit-requires-3 : need.emit-requires-3
 emit-requires-3 c κs =
     let k = at-13 (c .pre .ready) (c .from .ensures) (c .pre .kind) in
-    let s = ap sizeD (k .0) in
-    let v = c .in-Continue-expression .ensures tt in
-    let r = room-E (treeE (c .args .nodes .now) (at (c .args .nodes .now) (c .from .result) .a)) (c .emit-2 .last .self .count) in
-    omega (arith, c .pre .ready .room, c .emit .ensures .end, c .emit-2 .ensures .end, v .wrote .end)
+    let v = end-E (c .in-Continue-expression .ensures tt) in
+    omega (arith, c .pre .ready .room, ap sizeD (k .0), c .emit .ensures .end, c .emit-2 .ensures .end)
 
 pub aim-requires : need.aim-requires
 aim-requires c κs =

@@ -1,25 +1,19 @@
-use borrow.Author.Needs.{needs}
-use mathlib.Core.Path.{_≡_, refl, sym, ap, _∙_}
-use Prim.Native.Nat.{ℕ, suc, _+_, _*_, _≤_, _<_}
+use mathlib.Core.Path.{ap, _∙_}
 use native.Mathlib.Omega.{arith}
-use Rattle.std.specs.declared.result.Result.the-variants.{Ok, Err}
+use Rattle.std.specs.declared.result.Result.the-variants.{Err}
 use Rattle.std.proofs.shelf.Results.{err-from-errBy}
-use Rattle.language.specs.Names.{namesC, namesD}
-use Rattle.language.specs.Reading.{treeE, treeC, treeD}
-use Rattle.language.specs.Table.{at}
-use Rattle.language.specs.Tree.{sizeC, sizeD}
+use Rattle.language.specs.Names.{namesC}
+use Rattle.language.specs.Tree.{sizeC}
 use Rattle.translation.proofs.Commands.{same-C, refused-C, output-done}
-use Rattle.translation.proofs.Expressions.{ready-E}
+use Rattle.translation.proofs.Expressions.{ready-E, end-plain}
 use Rattle.translation.proofs.Forms.{at-2}
-use Rattle.translation.proofs.Rooms.{room-E}
 use Rattle.translation.proofs.Scopes.{same-refl}
-use Rattle.translation.proofs.command.output.Needs as need
+use Rattle.translation.proofs.simple.output.Needs as need
 
 pub plain-value-requires : need.plain-value-requires
 plain-value-requires c κs =
     let k = at-2 (c .pre .ready) (c .from .ensures) (c .pre .kind) in
-    let s = ap sizeC (k .0) in
-    ready-E (c .pre .ready .sound) (c .pre .ready .here) (k .1) (omega (arith, c .pre .ready .room))
+    ready-E (c .pre .ready .sound) (c .pre .ready .here) (k .1) (omega (arith, c .pre .ready .room, ap sizeC (k .0)))
 
 pub returns-in-Break-plain-value : need.returns-in-Break-plain-value
 unfolding namesC
@@ -31,10 +25,8 @@ returns-in-Break-plain-value c =
 pub emit-requires : need.emit-requires
 emit-requires c κs =
     let k = at-2 (c .pre .ready) (c .from .ensures) (c .pre .kind) in
-    let s = ap sizeC (k .0) in
-    let v = c .in-Continue-plain-value .ensures tt in
-    let r = room-E (treeE (c .args .nodes .now) (at (c .args .nodes .now) (c .from .result) .a)) (c .args .code .now .count) in
-    omega (arith, c .pre .ready .room, v .wrote .end)
+    let v = end-plain (c .in-Continue-plain-value .ensures tt) in
+    omega (arith, c .pre .ready .room, ap sizeC (k .0))
 
 pub returns : need.returns
 returns c =
