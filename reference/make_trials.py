@@ -6,6 +6,7 @@ Nothing here looks at what the crates do. What is known of an output from elsewh
 import pathlib
 
 import programs
+import refusals
 import small
 import writer
 
@@ -14,7 +15,7 @@ def main():
     small.check_documents()
     small.check_refusals()
     small.check_sheets()
-    for part in programs.PARTS:
+    for part in programs.PARTS + refusals.PARTS:
         part()
     folder = pathlib.Path(__file__).resolve().parent.parent / "crates" / "trials"
     for name, lines in (("stdin", writer.asked), ("stdout", writer.answered)):

@@ -69,9 +69,9 @@ class Trial:
         return self.call(f"{words} # {note}" if note else words, self.sequencer.load, table)
 
     def refuse(self, refusal, program, note=None):
-        """Loads what has to be refused so."""
+        """Loads what has to be refused so; `refusal` is a number, or a number and a node."""
         answer = self.load(program, note)
-        assert answer == refusal, (note, answer, refusal)
+        assert refusal in (answer, answer and answer[0]), (note, answer, refusal)
 
     def run(self, fuel=RUN_FUEL):
         return self.call(f"run {fuel}", self.sequencer.run, fuel, self.feed, self.strip)
