@@ -22,26 +22,29 @@ use Rattle.sequencer.specs.declared.report.Report.{Report}
 use Rattle.sequencer.specs.declared.state.Sequencer.{Sequencer}
 use Rattle.language.specs.Verdicts.{tableVerdict}
 use Rattle.sheet.specs.Faithful.{programOf}
-use Rattle.sheet.specs.Layout.{Program}
 use Rattle.sheet.specs.Sheets.{openVerdict, tablePart}
-use Rattle.sequencer.specs.Model.{Model, model, begun, codeOf}
+use Rattle.sequencer.specs.Model.{Model, model, begun, rewound, codeOf}
 use Rattle.sequencer.specs.Reports.{reportOf}
 
--- accepted, the program is replaced and a take of it begins; refused, nothing changes
-abbrev pub Begins : Program → Sequencer → Sequencer → Verdict → Type 0
-Begins p before after (Ok _) = model after ≡ begun p
-Begins p before after (Err e) = after ≡ before
+-- accepted, the sequencer is now this one, at the beginning of a take; refused, nothing changes
+abbrev pub Begins : Model → Sequencer → Sequencer → Verdict → Type 0
+Begins m before after (Ok _) = model after ≡ m
+Begins m before after (Err e) = after ≡ before
 
--- loading a table, and opening a sheet
+-- loading a table, and opening a sheet: the program is replaced
 abbrev pub Loaded : List ℕ → Sequencer → Sequencer → Verdict → Type 0
-Loaded table before after r = (r ≡ tableVerdict table) × Begins (programOf table) before after r
+Loaded table before after r = (r ≡ tableVerdict table) × Begins (begun (programOf table)) before after r
 
 abbrev pub Opened : List ℕ → Sequencer → Sequencer → Verdict → Type 0
-Opened sheet before after r = (r ≡ openVerdict sheet) × Begins (programOf (tablePart sheet)) before after r
+Opened sheet before after r = (r ≡ openVerdict sheet) × Begins (begun (programOf (tablePart sheet))) before after r
 
 -- whether there is a program
 abbrev pub programVerdict : Model → Verdict
 programVerdict m = unless (isSome (m .program)) NoProgram 0
+
+-- rewinding: the program stays
+abbrev pub Rewound : Sequencer → Sequencer → Verdict → Type 0
+Rewound before after r = (r ≡ programVerdict (model before)) × Begins (rewound (model before)) before after r
 
 abbrev pub goesOn : Status → Bool
 goesOn Running = true

@@ -40,6 +40,10 @@ fresh = record { program = None; status = Running; core = blank; granted = 0; st
 abbrev pub begun : Program → Model
 begun p = record { program = Some p; status = Running; core = blank; granted = 0; steps = 0 }
 
+-- the same program, at the beginning of a take
+abbrev pub rewound : Model → Model
+rewound m = record { program = m .program; status = Running; core = blank; granted = 0; steps = 0 }
+
 -- the nodes and the code of the program, if there is one
 abbrev pub nodesIn : Option Program → List Node
 nodesIn None = []

@@ -1,5 +1,5 @@
 ghost use mathlib.Core.Path.{_≡_};
-ghost use Rattle.sequencer.specs.Model.{model, fresh, begun, held, nodesIn, codeOf};
+ghost use Rattle.sequencer.specs.Model.{model, fresh, begun, rewound, held, nodesIn, codeOf};
 use crate::program::Program;
 use crate::state::Sequencer;
 use machine::state::Machine;
@@ -20,6 +20,13 @@ impl Sequencer {
         ensures { λ _. ⌜ model (now (self .exit)) ≡ begun (held program) ⌝ }
     {
         self.program = Some(program);
+        self.restart();
+    }
+
+    // Begins a take of the program that is there.
+    pub(crate) fn restart(&mut self)
+        ensures { λ _. ⌜ model (now (self .exit)) ≡ rewound (model (now (self .entry))) ⌝ }
+    {
         self.machine.restart();
         self.status = Status::Running;
         self.granted = 0;

@@ -5,5 +5,6 @@ mod begin;
 mod load;
 pub mod program;
 pub mod report;
+mod rewind;
 mod run;
 pub mod state;

@@ -1,0 +1,3 @@
+pub mod Acting
+pub mod History
+pub mod Law
