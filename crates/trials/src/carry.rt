@@ -1,28 +1,15 @@
-// Carrying out a trial: one answer line a call, and at its end what is left in the feed and on the strip.
-use crate::plan::Call;
-use crate::plan::FeedPlan;
-use crate::plan::StripPlan;
+// Carrying out a trial: one answer line a call.
+use crate::plan::Step;
 use crate::plan::Trial;
 use crate::show::print_code;
-use crate::show::print_done;
-use crate::show::print_feed;
-use crate::show::print_lines;
-use crate::show::print_records;
-use crate::show::print_refusal;
-use crate::show::print_report;
 use crate::show::print_sum;
-use crate::show::print_text;
 use ports::feed::Feed;
-use ports::ramp::Ramp;
-use ports::ramp::RampFeed;
-use ports::records::OutRecord;
-use ports::records::RecordStrip;
-use ports::records::RecordStripStrip;
 use ports::strip::Strip;
-use ports::text::TextStrip;
-use ports::text::TextStripStrip;
-use ports::trace::Trace;
-use ports::trace::TraceFeed;
+use script::carry::Job;
+use script::carry::carry_out;
+use script::plan::CallPlan;
+use script::show::print_done;
+use script::show::print_report;
 use sequencer::state::Sequencer;
 use std::error::AnyError;
 use std::io;
@@ -30,89 +17,34 @@ use std::io;
 fn answer<F: Feed, S: Strip>(
     rt: &LibcRuntime,
     sequencer: &mut Sequencer,
-    call: &Call,
+    call: &CallPlan,
     feed: &mut F,
     strip: &mut S,
 ) -> io::Result<()> {
     match call {
-        Call::Load(table) => {
-            let answer = sequencer.load(table.as_slice());
-            print_done(rt, answer)
-        }
-        Call::Run(fuel) => {
-            let answer = sequencer.run(*fuel, feed, strip);
-            print_report(rt, answer)
-        }
-        Call::Report => print_report(rt, sequencer.report()),
-        Call::Code => print_code(rt, sequencer.code()),
-        Call::Sum => print_sum(rt, sequencer.nodes(), sequencer.code()),
+        CallPlan::Load(table) => print_done(rt, sequencer.load(table.as_slice())),
+        CallPlan::Open(sheet) => print_done(rt, sequencer.open(sheet.as_slice())),
+        CallPlan::Rewind => print_done(rt, sequencer.rewind()),
+        CallPlan::Run(fuel) => print_report(rt, sequencer.run(*fuel, feed, strip)),
+        CallPlan::Report => print_report(rt, sequencer.report()),
     }
 }
 
-fn answer_all<F: Feed, S: Strip>(rt: &LibcRuntime, calls: &[Call], feed: &mut F, strip: &mut S) -> io::Result<()> {
-    let mut sequencer = Sequencer::new();
-    for call in calls {
-        answer(rt, &mut sequencer, call, feed, strip)?;
-    }
-    Ok(())
-}
-
-fn onto_records<F: Feed>(rt: &LibcRuntime, calls: &[Call], feed: &mut F, size: usize) -> Result<(), AnyError> {
-    let empty = OutRecord { sort: 0, number: 0 };
-    let mut memory = vec![in rt.alloc(); empty; size]?;
-    let used = {
-        let mut strip = RecordStrip::new(memory.as_mut_slice());
-        answer_all(rt, calls, feed, &mut strip)?;
-        strip.used()
-    };
-    print_feed(rt, feed)?;
-    if used <= memory.len() {
-        let space = memory.len() - used;
-        print_records(rt, &memory[0..used])?;
-        println!(rt, "space {space}")?;
-    }
-    Ok(())
-}
-
-fn onto_text<F: Feed>(rt: &LibcRuntime, calls: &[Call], feed: &mut F, size: usize) -> Result<(), AnyError> {
-    let mut memory = vec![in rt.alloc(); 0u8; size]?;
-    let used = {
-        let mut strip = TextStrip::new(memory.as_mut_slice());
-        answer_all(rt, calls, feed, &mut strip)?;
-        strip.used()
-    };
-    print_feed(rt, feed)?;
-    if used <= memory.len() {
-        let space = memory.len() - used;
-        print_lines(rt, &memory[0..used])?;
-        println!(rt, "space {space}")?;
-        print_text(rt, &memory[0..used])?;
-    }
-    Ok(())
-}
-
-fn onto_strip<F: Feed>(rt: &LibcRuntime, trial: &Trial, feed: &mut F) -> Result<(), AnyError> {
-    match trial.strip {
-        StripPlan::Records(size) => onto_records(rt, trial.calls.as_slice(), feed, size),
-        StripPlan::Text(size) => onto_text(rt, trial.calls.as_slice(), feed, size),
-    }
-}
-
-pub fn carry_out(rt: &LibcRuntime, trial: &Trial) -> Result<(), AnyError> {
-    match &trial.feed {
-        FeedPlan::Trace(records) => {
-            let mut feed = Trace::new(records.as_slice());
-            onto_strip(rt, trial, &mut feed)
-        }
-        FeedPlan::Ramp(start, step, count) => match Ramp::new(*start, *step, *count) {
-            Ok(ramp) => {
-                let mut feed = ramp;
-                onto_strip(rt, trial, &mut feed)
+// The steps of a trial, by the single calls of a new sequencer.
+pub impl Job for Trial as TrialJob {
+    fn work<F: Feed, S: Strip>(&self, rt: &LibcRuntime, feed: &mut F, strip: &mut S) -> Result<(), AnyError> {
+        let mut sequencer = Sequencer::new();
+        for step in self.steps.as_slice() {
+            match step {
+                Step::Call(call) => answer(rt, &mut sequencer, call, feed, strip)?,
+                Step::Code => print_code(rt, sequencer.code())?,
+                Step::Sum => print_sum(rt, sequencer.nodes(), sequencer.code())?,
             }
-            Err(refusal) => {
-                print_refusal(rt, refusal)?;
-                Ok(())
-            }
-        },
+        }
+        Ok(())
     }
+}
+
+pub fn carry_out_trial(rt: &LibcRuntime, trial: &Trial) -> Result<(), AnyError> {
+    carry_out(rt, trial, &trial.feed, trial.strip)
 }

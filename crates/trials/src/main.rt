@@ -6,13 +6,14 @@ mod plan;
 mod read;
 mod show;
 
-use carry::carry_out;
-use plan::FeedPlan;
+use carry::carry_out_trial;
 use plan::Line;
-use plan::Part;
-use plan::StripPlan;
+use plan::Step;
 use plan::Trial;
 use read::read_line;
+use script::plan::FeedPlan;
+use script::plan::Part;
+use script::plan::StripPlan;
 use std::alloc::Global;
 use std::error::AnyError;
 use std::io::BufRead;
@@ -24,7 +25,7 @@ fn new_trial(heap: Global, name: String) -> Trial {
         name,
         feed: FeedPlan::Trace(Vec::new(heap)),
         strip: StripPlan::Records(0),
-        calls: Vec::new(heap),
+        steps: Vec::new(heap),
     }
 }
 
@@ -33,7 +34,7 @@ fn finish(rt: &LibcRuntime, trial: Option<Trial>) -> Result<(), AnyError> {
         Some(trial) => {
             rt.print("trial ")?;
             rt.println(trial.name.as_str())?;
-            carry_out(rt, &trial)
+            carry_out_trial(rt, &trial)
         }
         None => Ok(()),
     }
@@ -43,9 +44,16 @@ fn add(trial: &mut Trial, part: Part) -> Result<(), AnyError> {
     match part {
         Part::Feed(feed) => drop(std::mem::replace(&mut trial.feed, feed)),
         Part::Strip(strip) => trial.strip = strip,
-        Part::Call(call) => trial.calls.push(call)?,
+        Part::Call(call) => trial.steps.push(Step::Call(call))?,
     }
     Ok(())
+}
+
+fn begun(trial: &mut Option<Trial>) -> Result<&mut Trial, AnyError> {
+    match trial {
+        Some(current) => Ok(current),
+        None => Err("no trial has begun".into()),
+    }
 }
 
 // A line that begins a trial has the one before carried out; any other adds to the trial.
@@ -56,10 +64,9 @@ fn take_line(rt: &LibcRuntime, trial: &mut Option<Trial>, text: &str) -> Result<
             let before = trial.replace(new_trial(rt.alloc(), name));
             finish(rt, before)
         }
-        Line::Part(part) => match trial {
-            Some(current) => add(current, part),
-            None => Err("no trial has begun".into()),
-        },
+        Line::Part(part) => add(begun(trial)?, part),
+        Line::Code => Ok(begun(trial)?.steps.push(Step::Code)?),
+        Line::Sum => Ok(begun(trial)?.steps.push(Step::Sum)?),
     }
 }
 

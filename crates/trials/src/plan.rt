@@ -1,44 +1,24 @@
 // What stands on standard input, as values.
-use ports::trace::Record;
+use script::plan::CallPlan;
+use script::plan::FeedPlan;
+use script::plan::Part;
+use script::plan::StripPlan;
 
-// Where the readings of a trial come from.
+// A call, or a look at the program's code: word for word, or as a sum.
 #[derive(Drop)]
-pub enum FeedPlan {
-    Trace(Vec<Record>),
-    Ramp(i32, i32, u16),
-}
-
-// Where its values go: a strip over so many elements of fresh memory.
-#[derive(Clone, Copy)]
-pub enum StripPlan {
-    Records(usize),
-    Text(usize),
-}
-
-#[derive(Drop)]
-pub enum Call {
-    Load(Vec<u8>),
-    Run(u32),
-    Report,
+pub enum Step {
+    Call(CallPlan),
     Code,
     Sum,
 }
 
-// A trial: calls of a new sequencer, between one feed and one strip.
+// A trial: steps with a new sequencer, between one feed and one strip.
 #[derive(Drop)]
 pub struct Trial {
     pub name: String,
     pub feed: FeedPlan,
     pub strip: StripPlan,
-    pub calls: Vec<Call>,
-}
-
-// What a line adds to a trial.
-#[derive(Drop)]
-pub enum Part {
-    Feed(FeedPlan),
-    Strip(StripPlan),
-    Call(Call),
+    pub steps: Vec<Step>,
 }
 
 // What one line says.
@@ -47,4 +27,6 @@ pub enum Line {
     Nothing,
     Trial(String),
     Part(Part),
+    Code,
+    Sum,
 }
