@@ -19,16 +19,19 @@ pub fn print_done(rt: &LibcRuntime, answer: Result<(), Refusal>) -> io::Result<(
     }
 }
 
+// A report in numbers.
+pub fn print_status(rt: &LibcRuntime, report: Report) -> io::Result<()> {
+    let ended = u8::from(report.ended());
+    let end = report.end();
+    let node = report.node();
+    let code = report.code();
+    let steps = report.steps;
+    println!(rt, "status {ended} {end} {node} {code} {steps}")
+}
+
 pub fn print_report(rt: &LibcRuntime, answer: Result<Report, Refusal>) -> io::Result<()> {
     match answer {
-        Ok(report) => {
-            let ended = u8::from(report.ended());
-            let end = report.end();
-            let node = report.node();
-            let code = report.code();
-            let steps = report.steps;
-            println!(rt, "status {ended} {end} {node} {code} {steps}")
-        }
+        Ok(report) => print_status(rt, report),
         Err(refusal) => print_refusal(rt, refusal),
     }
 }
