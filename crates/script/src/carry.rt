@@ -1,11 +1,11 @@
 // Work between a feed and a strip that are planned, and what it leaves there.
 use crate::plan::FeedPlan;
 use crate::plan::StripPlan;
+use crate::show::print_bytes;
 use crate::show::print_feed;
 use crate::show::print_lines;
 use crate::show::print_records;
 use crate::show::print_refusal;
-use crate::show::print_text;
 use ports::feed::Feed;
 use ports::ramp::Ramp;
 use ports::ramp::RampFeed;
@@ -53,7 +53,7 @@ fn onto_text<F: Feed, J: Job>(rt: &LibcRuntime, job: &J, feed: &mut F, size: usi
         let space = memory.len() - used;
         print_lines(rt, &memory[0..used])?;
         println!(rt, "space {space}")?;
-        print_text(rt, &memory[0..used])?;
+        print_bytes(rt, "text", &memory[0..used])?;
     }
     Ok(())
 }

@@ -3,3 +3,4 @@ pub mod carry;
 pub mod plan;
 pub mod read;
 pub mod show;
+pub mod whole;

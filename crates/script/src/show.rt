@@ -84,12 +84,13 @@ pub fn print_lines(rt: &LibcRuntime, text: &[u8]) -> io::Result<()> {
     println!(rt, "")
 }
 
-pub fn print_text(rt: &LibcRuntime, text: &[u8]) -> io::Result<()> {
-    print!(rt, "text")?;
-    if !text.is_empty() {
+// Bytes in base 16, behind a word that says what they are.
+pub fn print_bytes(rt: &LibcRuntime, word: &str, bytes: &[u8]) -> io::Result<()> {
+    print!(rt, "{word}")?;
+    if !bytes.is_empty() {
         print!(rt, " ")?;
     }
-    for byte in text {
+    for byte in bytes {
         let value = *byte;
         print!(rt, "{value:02x}")?;
     }

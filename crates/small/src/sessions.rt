@@ -1,22 +1,12 @@
 // A session from standard input: all of it is read before anything is carried out.
-use ports::feed::Feed;
-use ports::strip::Strip;
-use script::carry::Job;
-use script::carry::carry_out;
 use script::plan::CallPlan;
 use script::plan::FeedPlan;
 use script::plan::Part;
 use script::plan::StripPlan;
 use script::read::part_of;
 use script::read::words_of;
-use script::show::print_refusal;
-use script::show::print_status;
-use session::Answer;
-use session::AnswerDisplay;
-use session::Call;
-use session::session;
+use script::whole::carry_out_session;
 use std::error::AnyError;
-use std::io;
 use std::io::BufRead;
 use std::io::BufReader;
 
@@ -69,47 +59,6 @@ fn read_plan(rt: &LibcRuntime) -> Result<Plan, AnyError> {
     Ok(plan)
 }
 
-// The calls of a session, and whether their answers are printed as sentences.
-#[derive(Drop)]
-struct SessionJob<'a, 'b> {
-    calls: &'a [Call<'b>],
-    in_words: bool,
-}
-
-fn print_answer(rt: &LibcRuntime, answer: Answer, in_words: bool) -> io::Result<()> {
-    match answer {
-        _ if in_words => println!(rt, "{answer}"),
-        Answer::Done => println!(rt, "done"),
-        Answer::Told(report) => print_status(rt, report),
-        Answer::Refused(refusal) => print_refusal(rt, refusal),
-    }
-}
-
-impl<'a, 'b> Job for SessionJob<'a, 'b> as SessionJobJob {
-    fn work<F: Feed, S: Strip>(&self, rt: &LibcRuntime, feed: &mut F, strip: &mut S) -> Result<(), AnyError> {
-        let answers = session(self.calls, feed, strip, rt.alloc())?;
-        for answer in answers.as_slice() {
-            print_answer(rt, *answer, self.in_words)?;
-        }
-        Ok(())
-    }
-}
-
-// The calls, over the bytes that the plans hold.
-fn lend<'a>(rt: &LibcRuntime, plans: &'a [CallPlan]) -> Result<Vec<Call<'a>>, AnyError> {
-    let mut calls = Vec::new(rt.alloc());
-    for plan in plans {
-        calls.push(match plan {
-            CallPlan::Load(table) => Call::Load(table.as_slice()),
-            CallPlan::Open(sheet) => Call::Open(sheet.as_slice()),
-            CallPlan::Rewind => Call::Rewind,
-            CallPlan::Run(fuel) => Call::Run(*fuel),
-            CallPlan::Report => Call::Report,
-        })?;
-    }
-    Ok(calls)
-}
-
 pub fn run_session(rt: &LibcRuntime, in_words: bool) -> Result<(), AnyError> {
     let plan = read_plan(rt)?;
     let Plan { feed, strip, calls } = plan;
@@ -117,7 +66,5 @@ pub fn run_session(rt: &LibcRuntime, in_words: bool) -> Result<(), AnyError> {
         rt.eprintln("error: a session has a feed line and a strip line")?;
         return Err("a session has a feed line and a strip line".into());
     };
-    let lent = lend(rt, calls.as_slice())?;
-    let job = SessionJob { calls: lent.as_slice(), in_words };
-    carry_out(rt, &job, &feed, strip)
+    carry_out_session(rt, calls.as_slice(), &feed, strip, in_words)
 }

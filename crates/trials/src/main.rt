@@ -1,6 +1,7 @@
 // The program `trials`. It reads trials from standard input, carries each out by the calls of a new sequencer, and
 // prints a line for each answer. reference/make_trials.py writes its input and, by an implementation of its own, what has
 // to come out.
+mod bench;
 mod carry;
 mod plan;
 mod read;
@@ -65,8 +66,7 @@ fn take_line(rt: &LibcRuntime, trial: &mut Option<Trial>, text: &str) -> Result<
             finish(rt, before)
         }
         Line::Part(part) => add(begun(trial)?, part),
-        Line::Code => Ok(begun(trial)?.steps.push(Step::Code)?),
-        Line::Sum => Ok(begun(trial)?.steps.push(Step::Sum)?),
+        Line::Step(step) => Ok(begun(trial)?.steps.push(step)?),
     }
 }
 

@@ -4,12 +4,23 @@ use script::plan::FeedPlan;
 use script::plan::Part;
 use script::plan::StripPlan;
 
-// A call, or a look at the program's code: word for word, or as a sum.
+// What is asked of the sequencer, and of the memory that sheets are written to.
 #[derive(Drop)]
 pub enum Step {
     Call(CallPlan),
+    // the words of the code
     Code,
+    // how many nodes and words there are, and a sum over both
     Sum,
+    // so many bytes of fresh memory
+    Paper(usize),
+    Start,
+    Finish,
+    Archive,
+    // another value for one byte of the memory
+    Poke(usize, u8),
+    // the bytes of the memory
+    Look,
 }
 
 // A trial: steps with a new sequencer, between one feed and one strip.
@@ -21,12 +32,11 @@ pub struct Trial {
     pub steps: Vec<Step>,
 }
 
-// What one line says.
+// What one line says: it begins a trial, or adds to one.
 #[derive(Drop)]
 pub enum Line {
     Nothing,
     Trial(String),
     Part(Part),
-    Code,
-    Sum,
+    Step(Step),
 }

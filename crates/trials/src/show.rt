@@ -1,7 +1,17 @@
-// Printing a program's code, word for word or as a sum.
+// Printing the length of a sheet, and a program's code, word for word or as a sum.
+use script::show::print_refusal;
 use std::io;
 use vocabulary::code::Word;
 use vocabulary::node::Node;
+use vocabulary::refusal::Refusal;
+
+// What finish and archive answer: the length of the sheet.
+pub fn print_length(rt: &LibcRuntime, answer: Result<usize, Refusal>) -> io::Result<()> {
+    match answer {
+        Ok(length) => println!(rt, "length {length}"),
+        Err(refusal) => print_refusal(rt, refusal),
+    }
+}
 
 // Each word as opcode, node and operand.
 pub fn print_code(rt: &LibcRuntime, code: &[Word]) -> io::Result<()> {
