@@ -11,6 +11,7 @@ use carry::carry_out_trial;
 use plan::Line;
 use plan::Step;
 use plan::Trial;
+use plan::Work;
 use read::read_line;
 use script::plan::FeedPlan;
 use script::plan::Part;
@@ -21,19 +22,15 @@ use std::io::BufRead;
 use std::io::BufReader;
 
 // A trial without calls, over an empty feed and a strip without space.
-fn new_trial(heap: Global, name: String) -> Trial {
-    Trial {
-        name,
-        feed: FeedPlan::Trace(Vec::new(heap)),
-        strip: StripPlan::Records(0),
-        steps: Vec::new(heap),
-    }
+fn new_trial(heap: Global, name: String, work: Work) -> Trial {
+    Trial { name, feed: FeedPlan::Trace(Vec::new(heap)), strip: StripPlan::Records(0), work }
 }
 
 fn finish(rt: &LibcRuntime, trial: Option<Trial>) -> Result<(), AnyError> {
     match trial {
         Some(trial) => {
-            rt.print("trial ")?;
+            rt.print(trial.work.word())?;
+            rt.print(" ")?;
             rt.println(trial.name.as_str())?;
             carry_out_trial(rt, &trial)
         }
@@ -45,7 +42,7 @@ fn add(trial: &mut Trial, part: Part) -> Result<(), AnyError> {
     match part {
         Part::Feed(feed) => drop(std::mem::replace(&mut trial.feed, feed)),
         Part::Strip(strip) => trial.strip = strip,
-        Part::Call(call) => trial.steps.push(Step::Call(call))?,
+        Part::Call(call) => trial.work.add(Step::Call(call))?,
     }
     Ok(())
 }
@@ -62,11 +59,15 @@ fn take_line(rt: &LibcRuntime, trial: &mut Option<Trial>, text: &str) -> Result<
     match read_line(rt.alloc(), text)? {
         Line::Nothing => Ok(()),
         Line::Trial(name) => {
-            let before = trial.replace(new_trial(rt.alloc(), name));
+            let before = trial.replace(new_trial(rt.alloc(), name, Work::Steps(Vec::new(rt.alloc()))));
+            finish(rt, before)
+        }
+        Line::Session(name) => {
+            let before = trial.replace(new_trial(rt.alloc(), name, Work::Session(Vec::new(rt.alloc()))));
             finish(rt, before)
         }
         Line::Part(part) => add(begun(trial)?, part),
-        Line::Step(step) => Ok(begun(trial)?.steps.push(step)?),
+        Line::Step(step) => begun(trial)?.work.add(step),
     }
 }
 

@@ -3,6 +3,7 @@ use script::plan::CallPlan;
 use script::plan::FeedPlan;
 use script::plan::Part;
 use script::plan::StripPlan;
+use std::error::AnyError;
 
 // What is asked of the sequencer, and of the memory that sheets are written to.
 #[derive(Drop)]
@@ -23,13 +24,38 @@ pub enum Step {
     Look,
 }
 
-// A trial: steps with a new sequencer, between one feed and one strip.
+// What is tried: steps one by one, or calls as one session.
+#[derive(Drop)]
+pub enum Work {
+    Steps(Vec<Step>),
+    Session(Vec<CallPlan>),
+}
+
+impl Work {
+    // The word that begins such a trial.
+    pub fn word(&self) -> &'static str {
+        match self {
+            Work::Steps(_) => "trial",
+            Work::Session(_) => "session",
+        }
+    }
+
+    pub fn add(&mut self, step: Step) -> Result<(), AnyError> {
+        match (self, step) {
+            (Work::Steps(steps), step) => Ok(steps.push(step)?),
+            (Work::Session(calls), Step::Call(call)) => Ok(calls.push(call)?),
+            (Work::Session(_), _) => Err("a session has calls only".into()),
+        }
+    }
+}
+
+// A trial: work with a new sequencer, between one feed and one strip.
 #[derive(Drop)]
 pub struct Trial {
     pub name: String,
     pub feed: FeedPlan,
     pub strip: StripPlan,
-    pub steps: Vec<Step>,
+    pub work: Work,
 }
 
 // What one line says: it begins a trial, or adds to one.
@@ -37,6 +63,7 @@ pub struct Trial {
 pub enum Line {
     Nothing,
     Trial(String),
+    Session(String),
     Part(Part),
     Step(Step),
 }

@@ -25,6 +25,7 @@ fn line_of(heap: Global, words: &[&str]) -> Result<Line, AnyError> {
     match words {
         [] => Ok(Line::Nothing),
         ["trial", name] => Ok(Line::Trial(String::from_str(heap, *name)?)),
+        ["session", name] => Ok(Line::Session(String::from_str(heap, *name)?)),
         _ => match step_of(words)? {
             Some(step) => Ok(Line::Step(step)),
             None => Ok(Line::Part(part_of(heap, words)?)),
