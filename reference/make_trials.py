@@ -5,8 +5,12 @@ Nothing here looks at what the crates do. What is known of an output from elsewh
 
 import pathlib
 
+import chance
+import large
+import ports
 import programs
 import refusals
+import sheets
 import small
 import writer
 
@@ -15,12 +19,14 @@ def main():
     small.check_documents()
     small.check_refusals()
     small.check_sheets()
-    for part in programs.PARTS + refusals.PARTS:
-        part()
+    for module in (programs, refusals, sheets, ports, chance, large):
+        for part in module.PARTS:
+            part()
+    writer.sessions()
     folder = pathlib.Path(__file__).resolve().parent.parent / "crates" / "trials"
     for name, lines in (("stdin", writer.asked), ("stdout", writer.answered)):
         (folder / name).write_text("".join(line + "\n" for line in lines))
-    trials = sum(line.startswith("trial ") for line in writer.asked)
+    trials = sum(line.startswith(("trial ", "session ")) for line in writer.asked)
     print(f"{trials} trials, {len(writer.asked)} lines of input, {len(writer.answered)} answers")
 
 
