@@ -4,6 +4,7 @@ ghost use lib.ListN.{length};
 ghost use Rattle.std.specs.declared.option.Option.the-variants.{Some};
 ghost use Rattle.sheet.specs.Layout.{archive};
 ghost use Rattle.sheet.specs.Writing.{archiveAnswer, archiveMemory};
+use crate::half::HalfSheet;
 use crate::half::finish;
 use crate::half::start;
 use vocabulary::code::Word;
@@ -17,7 +18,7 @@ pub fn write_sheet(nodes: &[Node], code: &[Word], memory: &mut [u8]) -> Result<u
     ensures answer { λ r. ⌜ r ≡ archiveAnswer (Some (archive (now (nodes .entry)) (now (code .entry)))) (now (memory .entry)) ⌝ }
     ensures memory { λ _. ⌜ now (memory .exit) ≡ archiveMemory (Some (archive (now (nodes .entry)) (now (code .entry)))) (now (memory .entry)) ⌝ }
 {
-    let half = start(nodes, code, memory)?;
+    let half: HalfSheet = start(nodes, code, memory)?;
     match finish(nodes, code, memory, half) {
         Ok(total) => Ok(total),
         Err((refusal, _)) => Err(refusal),

@@ -1,0 +1,28 @@
+"""Writes crates/trials/stdin and crates/trials/stdout: trials, and what has to come out of them by reference/small.py.
+
+Nothing here looks at what the crates do. What is known of an output from elsewhere is asserted beside the trial.
+"""
+
+import pathlib
+
+import programs
+import refusals
+import small
+import writer
+
+
+def main():
+    small.check_documents()
+    small.check_refusals()
+    small.check_sheets()
+    for part in programs.PARTS + refusals.PARTS:
+        part()
+    folder = pathlib.Path(__file__).resolve().parent.parent / "crates" / "trials"
+    for name, lines in (("stdin", writer.asked), ("stdout", writer.answered)):
+        (folder / name).write_text("".join(line + "\n" for line in lines))
+    trials = sum(line.startswith("trial ") for line in writer.asked)
+    print(f"{trials} trials, {len(writer.asked)} lines of input, {len(writer.answered)} answers")
+
+
+if __name__ == "__main__":
+    main()

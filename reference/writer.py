@@ -1,0 +1,129 @@
+"""Writing trials down: each call of a trial as a line of input, with what the reference answers as a line of output."""
+
+from small import Fault, RecordStrip, Refused, Sequencer, TextStrip, Trace, assemble, is_truth, ramp, table_of, typed
+
+RUN_FUEL = 1_000_000
+
+asked, answered = [], []
+
+
+def word_of(value):
+    if isinstance(value, Fault):
+        return f"fault:{value.code}"
+    return str(value).lower() if is_truth(value) else str(value)
+
+
+def line_of(*words):
+    return " ".join(words)
+
+
+def heading(text):
+    asked.append(f"# {text}")
+
+
+def fnv(data):
+    """The 32-bit FNV-1a sum."""
+    total = 2166136261
+    for byte in data:
+        total = (total ^ byte) * 16777619 & 0xFFFFFFFF
+    return total
+
+
+class Trial:
+    """A trial of a new sequencer, between one feed and one strip."""
+
+    def __init__(self, name, feed=(), strip=None, feed_line=None):
+        self.sequencer = Sequencer()
+        self.feed = feed if isinstance(feed, Trace) else Trace(feed)
+        self.strip = RecordStrip(64) if strip is None else strip
+        begin(name, feed_line or line_of("feed trace", *map(word_of, self.feed.items)), self.strip)
+
+    def __enter__(self):
+        return self
+
+    def __exit__(self, kind, value, trace):
+        if kind:
+            return
+        if self.sequencer.nodes is not None:
+            self.sequencer.agree()
+        answered.append(line_of("feed", *map(word_of, self.feed.items)))
+        answered.append(line_of("held", *map(word_of, self.strip.held)))
+        answered.append(f"space {self.strip.space}")
+        if isinstance(self.strip, TextStrip):
+            answered.append(line_of("text", *filter(None, [self.strip.text().hex()])))
+
+    def call(self, words, call, *arguments):
+        asked.append(words)
+        try:
+            answer = call(*arguments)
+        except Refused as refusal:
+            answered.append(f"refused {refusal.number} {refusal.node}")
+            return refusal.number, refusal.node
+        answered.append("done" if answer is None else line_of("status", *(str(int(field)) for field in answer)))
+        return answer
+
+    def load(self, program, note=None):
+        """Loads a table, or a program that is assembled first."""
+        table = program if isinstance(program, bytes) else assemble(program)
+        words = f"load {table.hex() or '-'}"
+        return self.call(f"{words} # {note}" if note else words, self.sequencer.load, table)
+
+    def refuse(self, refusal, program, note=None):
+        """Loads what has to be refused so; `refusal` is a number, or a number and a node."""
+        answer = self.load(program, note)
+        assert refusal in (answer, answer and answer[0]), (note, answer, refusal)
+
+    def run(self, fuel=RUN_FUEL):
+        return self.call(f"run {fuel}", self.sequencer.run, fuel, self.feed, self.strip)
+
+    def report(self):
+        return self.call("report", self.sequencer.report)
+
+    def program(self):
+        return (self.sequencer.nodes, self.sequencer.code) if self.sequencer.nodes else ([], [])
+
+    def code(self):
+        """Lists the code."""
+        _, code = self.program()
+        asked.append("code")
+        answered.append(line_of("code", *(f"{word.opcode}:{word.node}:{word.operand}" for word in code)))
+
+    def sum(self):
+        """Counts of nodes and words, and a sum over both."""
+        nodes, code = self.program()
+        total = fnv(table_of(nodes) + b"".join(word.bytes() for word in code))
+        asked.append("sum")
+        answered.append(f"sum {len(nodes)} {len(code)} {total}")
+
+
+def begin(name, feed_line, strip):
+    asked.append(f"trial {name}")
+    asked.append(feed_line)
+    asked.append(f"strip {'records' if isinstance(strip, RecordStrip) else 'text'} {strip.space}")
+    answered.append(f"trial {name}")
+
+
+def over_ramp(name, start, step, count, strip=None):
+    return Trial(name, ramp(start, step, count), strip, f"feed ramp {start} {step} {count}")
+
+
+def refused_ramp(name, start, step, count):
+    """A trial whose feed is refused: none of its calls is carried out."""
+    try:
+        ramp(start, step, count)
+    except Refused as refusal:
+        begin(name, f"feed ramp {start} {step} {count}", RecordStrip(1))
+        asked.extend(["run 1", "report"])
+        answered.append(f"refused {refusal.number} {refusal.node}")
+        return
+    raise AssertionError((start, step, count))
+
+
+def whole(name, program, feed=(), strip=None, held=None, end=None):
+    """One program, listed and run to its end; `held` and `end` are what is known of it beforehand."""
+    with Trial(name, feed, strip) as trial:
+        trial.load(program)
+        trial.code()
+        report = trial.run()
+        assert report.ended and end in (None, report.end, report[1:4]), (name, report)
+        assert held is None or typed(trial.strip.held) == typed(held), (name, trial.strip.held)
