@@ -7,6 +7,7 @@ import pathlib
 
 import programs
 import refusals
+import sheets
 import small
 import writer
 
@@ -15,7 +16,7 @@ def main():
     small.check_documents()
     small.check_refusals()
     small.check_sheets()
-    for part in programs.PARTS + refusals.PARTS:
+    for part in programs.PARTS + refusals.PARTS + sheets.PARTS:
         part()
     folder = pathlib.Path(__file__).resolve().parent.parent / "crates" / "trials"
     for name, lines in (("stdin", writer.asked), ("stdout", writer.answered)):

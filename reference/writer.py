@@ -29,11 +29,21 @@ def fnv(data):
     return total
 
 
+def spelled(answer):
+    if answer is None:
+        return "done"
+    if answer == "half":
+        return "half"
+    if isinstance(answer, int):
+        return f"length {answer}"
+    return line_of("status", *(str(int(field)) for field in answer))
+
+
 class Trial:
     """A trial of a new sequencer, between one feed and one strip."""
 
     def __init__(self, name, feed=(), strip=None, feed_line=None):
-        self.sequencer = Sequencer()
+        self.sequencer, self.memory = Sequencer(), bytearray()
         self.feed = feed if isinstance(feed, Trace) else Trace(feed)
         self.strip = RecordStrip(64) if strip is None else strip
         begin(name, feed_line or line_of("feed trace", *map(word_of, self.feed.items)), self.strip)
@@ -59,7 +69,7 @@ class Trial:
         except Refused as refusal:
             answered.append(f"refused {refusal.number} {refusal.node}")
             return refusal.number, refusal.node
-        answered.append("done" if answer is None else line_of("status", *(str(int(field)) for field in answer)))
+        answered.append(spelled(answer))
         return answer
 
     def load(self, program, note=None):
@@ -78,6 +88,39 @@ class Trial:
 
     def report(self):
         return self.call("report", self.sequencer.report)
+
+    def open(self, sheet, note=None):
+        words = f"open {sheet.hex() or '-'}"
+        return self.call(f"{words} # {note}" if note else words, self.sequencer.open, sheet)
+
+    def refuse_sheet(self, refusal, sheet, note):
+        answer = self.open(sheet, note)
+        assert answer == refusal, (note, answer, refusal)
+
+    def rewind(self):
+        return self.call("rewind", self.sequencer.rewind)
+
+    def paper(self, size):
+        """Fresh memory for a sheet."""
+        asked.append(f"paper {size}")
+        self.memory = bytearray(b"\xff" * size)
+
+    def poke(self, at, value):
+        asked.append(f"poke {at} {value}")
+        self.memory[at] = value
+
+    def look(self):
+        asked.append("look")
+        answered.append(line_of("memory", *filter(None, [self.memory.hex()])))
+
+    def start(self):
+        self.call("start", self.sequencer.start, self.memory)
+
+    def finish(self):
+        self.call("finish", self.sequencer.finish, self.memory)
+
+    def archive(self):
+        self.call("archive", self.sequencer.archive, self.memory)
 
     def program(self):
         return (self.sequencer.nodes, self.sequencer.code) if self.sequencer.nodes else ([], [])

@@ -1,17 +1,14 @@
 // Carrying out a trial: one answer line a call, and at its end what is left in the feed and on the strip.
+use crate::bench::Bench;
 use crate::plan::Call;
 use crate::plan::FeedPlan;
 use crate::plan::StripPlan;
 use crate::plan::Trial;
-use crate::show::print_code;
-use crate::show::print_done;
+use crate::show::print_bytes;
 use crate::show::print_feed;
 use crate::show::print_lines;
 use crate::show::print_records;
 use crate::show::print_refusal;
-use crate::show::print_report;
-use crate::show::print_sum;
-use crate::show::print_text;
 use ports::feed::Feed;
 use ports::ramp::Ramp;
 use ports::ramp::RampFeed;
@@ -23,36 +20,17 @@ use ports::text::TextStrip;
 use ports::text::TextStripStrip;
 use ports::trace::Trace;
 use ports::trace::TraceFeed;
-use sequencer::state::Sequencer;
 use std::error::AnyError;
-use std::io;
 
-fn answer<F: Feed, S: Strip>(
+fn answer_all<F: Feed, S: Strip>(
     rt: &LibcRuntime,
-    sequencer: &mut Sequencer,
-    call: &Call,
+    calls: &[Call],
     feed: &mut F,
     strip: &mut S,
-) -> io::Result<()> {
-    match call {
-        Call::Load(table) => {
-            let answer = sequencer.load(table.as_slice());
-            print_done(rt, answer)
-        }
-        Call::Run(fuel) => {
-            let answer = sequencer.run(*fuel, feed, strip);
-            print_report(rt, answer)
-        }
-        Call::Report => print_report(rt, sequencer.report()),
-        Call::Code => print_code(rt, sequencer.code()),
-        Call::Sum => print_sum(rt, sequencer.nodes(), sequencer.code()),
-    }
-}
-
-fn answer_all<F: Feed, S: Strip>(rt: &LibcRuntime, calls: &[Call], feed: &mut F, strip: &mut S) -> io::Result<()> {
-    let mut sequencer = Sequencer::new();
+) -> Result<(), AnyError> {
+    let mut bench = Bench::new(rt.alloc());
     for call in calls {
-        answer(rt, &mut sequencer, call, feed, strip)?;
+        bench.answer(rt, call, feed, strip)?;
     }
     Ok(())
 }
@@ -86,7 +64,7 @@ fn onto_text<F: Feed>(rt: &LibcRuntime, calls: &[Call], feed: &mut F, size: usiz
         let space = memory.len() - used;
         print_lines(rt, &memory[0..used])?;
         println!(rt, "space {space}")?;
-        print_text(rt, &memory[0..used])?;
+        print_bytes(rt, "text", &memory[0..used])?;
     }
     Ok(())
 }

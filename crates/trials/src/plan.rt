@@ -15,13 +15,27 @@ pub enum StripPlan {
     Text(usize),
 }
 
+// What is asked of the sequencer and of the memory that sheets are written to.
 #[derive(Drop)]
 pub enum Call {
     Load(Vec<u8>),
+    Open(Vec<u8>),
+    Rewind,
     Run(u32),
     Report,
+    // the words of the code
     Code,
+    // how many nodes and words there are, and a sum over both
     Sum,
+    // so many bytes of fresh memory
+    Paper(usize),
+    Start,
+    Finish,
+    Archive,
+    // another value for one byte of the memory
+    Poke(usize, u8),
+    // the bytes of the memory
+    Look,
 }
 
 // A trial: calls of a new sequencer, between one feed and one strip.

@@ -53,19 +53,34 @@ fn ramp_in(start: &str, step: &str, count: &str) -> Result<FeedPlan, AnyError> {
     Ok(FeedPlan::Ramp(start.parse::<i32>()?, step.parse::<i32>()?, count.parse::<u16>()?))
 }
 
+// A call with arguments.
+fn call_of(heap: Global, words: &[&str]) -> Result<Call, AnyError> {
+    match words {
+        ["load", table] => Ok(Call::Load(bytes_in(heap, *table)?)),
+        ["open", sheet] => Ok(Call::Open(bytes_in(heap, *sheet)?)),
+        ["run", fuel] => Ok(Call::Run(fuel.parse::<u32>()?)),
+        ["paper", size] => Ok(Call::Paper(size.parse::<usize>()?)),
+        ["poke", at, value] => Ok(Call::Poke(at.parse::<usize>()?, value.parse::<u8>()?)),
+        _ => Err("no such line is known".into()),
+    }
+}
+
 // What the words of a line add to a trial.
 fn part_of(heap: Global, words: &[&str]) -> Result<Part, AnyError> {
     match words {
         ["feed", "trace", items @ ..] => Ok(Part::Feed(FeedPlan::Trace(records_in(heap, items)?))),
         ["feed", "ramp", start, step, count] => Ok(Part::Feed(ramp_in(*start, *step, *count)?)),
-        ["strip", "records", count] => Ok(Part::Strip(StripPlan::Records(count.parse::<usize>()?))),
-        ["strip", "text", count] => Ok(Part::Strip(StripPlan::Text(count.parse::<usize>()?))),
-        ["load", table] => Ok(Part::Call(Call::Load(bytes_in(heap, *table)?))),
-        ["run", fuel] => Ok(Part::Call(Call::Run(fuel.parse::<u32>()?))),
+        ["strip", "records", size] => Ok(Part::Strip(StripPlan::Records(size.parse::<usize>()?))),
+        ["strip", "text", size] => Ok(Part::Strip(StripPlan::Text(size.parse::<usize>()?))),
+        ["rewind"] => Ok(Part::Call(Call::Rewind)),
         ["report"] => Ok(Part::Call(Call::Report)),
         ["code"] => Ok(Part::Call(Call::Code)),
         ["sum"] => Ok(Part::Call(Call::Sum)),
-        _ => Err("no such line is known".into()),
+        ["start"] => Ok(Part::Call(Call::Start)),
+        ["finish"] => Ok(Part::Call(Call::Finish)),
+        ["archive"] => Ok(Part::Call(Call::Archive)),
+        ["look"] => Ok(Part::Call(Call::Look)),
+        _ => Ok(Part::Call(call_of(heap, words)?)),
     }
 }
 

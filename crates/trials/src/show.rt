@@ -21,6 +21,14 @@ pub fn print_done(rt: &LibcRuntime, answer: Result<(), Refusal>) -> io::Result<(
     }
 }
 
+// What finish and archive answer: the length of the sheet.
+pub fn print_length(rt: &LibcRuntime, answer: Result<usize, Refusal>) -> io::Result<()> {
+    match answer {
+        Ok(length) => println!(rt, "length {length}"),
+        Err(refusal) => print_refusal(rt, refusal),
+    }
+}
+
 pub fn print_report(rt: &LibcRuntime, answer: Result<Report, Refusal>) -> io::Result<()> {
     match answer {
         Ok(report) => {
@@ -131,12 +139,13 @@ pub fn print_lines(rt: &LibcRuntime, text: &[u8]) -> io::Result<()> {
     println!(rt, "")
 }
 
-pub fn print_text(rt: &LibcRuntime, text: &[u8]) -> io::Result<()> {
-    print!(rt, "text")?;
-    if !text.is_empty() {
+// Bytes in base 16, behind a word that says what they are.
+pub fn print_bytes(rt: &LibcRuntime, word: &str, bytes: &[u8]) -> io::Result<()> {
+    print!(rt, "{word}")?;
+    if !bytes.is_empty() {
         print!(rt, " ")?;
     }
-    for byte in text {
+    for byte in bytes {
         let value = *byte;
         print!(rt, "{value:02x}")?;
     }
