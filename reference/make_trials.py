@@ -5,6 +5,9 @@ Nothing here looks at what the crates do. What is known of an output from elsewh
 
 import pathlib
 
+import chance
+import large
+import ports
 import programs
 import refusals
 import sheets
@@ -16,8 +19,9 @@ def main():
     small.check_documents()
     small.check_refusals()
     small.check_sheets()
-    for part in programs.PARTS + refusals.PARTS + sheets.PARTS:
-        part()
+    for module in (programs, refusals, sheets, ports, chance, large):
+        for part in module.PARTS:
+            part()
     folder = pathlib.Path(__file__).resolve().parent.parent / "crates" / "trials"
     for name, lines in (("stdin", writer.asked), ("stdout", writer.answered)):
         (folder / name).write_text("".join(line + "\n" for line in lines))
