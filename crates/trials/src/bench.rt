@@ -27,7 +27,11 @@ pub struct Bench {
 
 impl Bench {
     pub fn new(heap: Global) -> Bench {
-        Bench { sequencer: Sequencer::new(), memory: Vec::new(heap), half: None }
+        Bench {
+            sequencer: Sequencer::new(),
+            memory: Vec::new(heap),
+            half: None,
+        }
     }
 
     // Carries out a call, and prints its answer if it has one.
@@ -49,7 +53,9 @@ impl Bench {
             Call::Paper(size) => self.lay_out(rt.alloc(), *size),
             Call::Start => Ok(self.start(rt)?),
             Call::Finish => self.finish(rt),
-            Call::Archive => Ok(print_length(rt, self.sequencer.archive(self.memory.as_mut_slice()))?),
+            Call::Archive => Ok(
+                print_length(rt, self.sequencer.archive(self.memory.as_mut_slice()))?,
+            ),
             Call::Poke(at, value) => self.poke(*at, *value),
             Call::Look => Ok(print_bytes(rt, "memory", self.memory.as_slice())?),
         }

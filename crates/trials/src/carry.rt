@@ -35,7 +35,12 @@ fn answer_all<F: Feed, S: Strip>(
     Ok(())
 }
 
-fn onto_records<F: Feed>(rt: &LibcRuntime, calls: &[Call], feed: &mut F, size: usize) -> Result<(), AnyError> {
+fn onto_records<F: Feed>(
+    rt: &LibcRuntime,
+    calls: &[Call],
+    feed: &mut F,
+    size: usize,
+) -> Result<(), AnyError> {
     let empty = OutRecord { sort: 0, number: 0 };
     let mut memory = vec![in rt.alloc(); empty; size]?;
     let used = {
@@ -43,29 +48,32 @@ fn onto_records<F: Feed>(rt: &LibcRuntime, calls: &[Call], feed: &mut F, size: u
         answer_all(rt, calls, feed, &mut strip)?;
         strip.used()
     };
+    let filled = used.min(memory.len());
+    let space = memory.len() - filled;
     print_feed(rt, feed)?;
-    if used <= memory.len() {
-        let space = memory.len() - used;
-        print_records(rt, &memory[0..used])?;
-        println!(rt, "space {space}")?;
-    }
+    print_records(rt, &memory[0..filled])?;
+    println!(rt, "space {space}")?;
     Ok(())
 }
 
-fn onto_text<F: Feed>(rt: &LibcRuntime, calls: &[Call], feed: &mut F, size: usize) -> Result<(), AnyError> {
+fn onto_text<F: Feed>(
+    rt: &LibcRuntime,
+    calls: &[Call],
+    feed: &mut F,
+    size: usize,
+) -> Result<(), AnyError> {
     let mut memory = vec![in rt.alloc(); 0u8; size]?;
     let used = {
         let mut strip = TextStrip::new(memory.as_mut_slice());
         answer_all(rt, calls, feed, &mut strip)?;
         strip.used()
     };
+    let filled = used.min(memory.len());
+    let space = memory.len() - filled;
     print_feed(rt, feed)?;
-    if used <= memory.len() {
-        let space = memory.len() - used;
-        print_lines(rt, &memory[0..used])?;
-        println!(rt, "space {space}")?;
-        print_bytes(rt, "text", &memory[0..used])?;
-    }
+    print_lines(rt, &memory[0..filled])?;
+    println!(rt, "space {space}")?;
+    print_bytes(rt, "text", &memory[0..filled])?;
     Ok(())
 }
 

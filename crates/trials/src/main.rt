@@ -32,8 +32,8 @@ fn new_trial(heap: Global, name: String) -> Trial {
 fn finish(rt: &LibcRuntime, trial: Option<Trial>) -> Result<(), AnyError> {
     match trial {
         Some(trial) => {
-            rt.print("trial ")?;
-            rt.println(trial.name.as_str())?;
+            let name = trial.name.as_str();
+            println!(rt, "trial {name}")?;
             carry_out(rt, &trial)
         }
         None => Ok(()),

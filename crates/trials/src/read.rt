@@ -34,10 +34,13 @@ fn bytes_in(heap: Global, word: &str) -> Result<Vec<u8>, AnyError> {
 
 // A reading, or a fault as `fault:3`.
 fn record_in(word: &str) -> Result<Record, AnyError> {
-    match word.strip_prefix("fault:") {
-        Some("0") => Err("a fault's code is 1 to 255".into()),
-        Some(code) => Ok(Record { code: code.parse::<u8>()?, reading: 0 }),
-        None => Ok(Record { code: 0, reading: word.parse::<i32>()? }),
+    let Some(code) = word.strip_prefix("fault:") else {
+        let reading = word.parse::<i32>()?;
+        return Ok(Record { code: 0, reading });
+    };
+    match code.parse::<u8>()? {
+        0 => Err("a fault's code is 1 to 255".into()),
+        code => Ok(Record { code, reading: 0 }),
     }
 }
 
@@ -50,7 +53,11 @@ fn records_in(heap: Global, words: &[&str]) -> Result<Vec<Record>, AnyError> {
 }
 
 fn ramp_in(start: &str, step: &str, count: &str) -> Result<FeedPlan, AnyError> {
-    Ok(FeedPlan::Ramp(start.parse::<i32>()?, step.parse::<i32>()?, count.parse::<u16>()?))
+    Ok(FeedPlan::Ramp(
+        start.parse::<i32>()?,
+        step.parse::<i32>()?,
+        count.parse::<u16>()?,
+    ))
 }
 
 // A call with arguments.
