@@ -20,10 +20,11 @@ def main():
     for module in (programs, refusals, sheets, ports, chance, large):
         for part in module.PARTS:
             part()
+    writer.sessions()
     folder = pathlib.Path(__file__).resolve().parent.parent / "crates" / "trials"
     for name, lines in (("stdin", writer.asked), ("stdout", writer.answered)):
         (folder / name).write_text("".join(line + "\n" for line in lines))
-    trials = sum(line.startswith("trial ") for line in writer.asked)
+    trials = sum(line.startswith(("trial ", "session ")) for line in writer.asked)
     print(f"{trials} trials, {len(writer.asked)} lines of input, {len(writer.answered)} answers")
 
 

@@ -170,3 +170,26 @@ def whole(name, program, feed=(), strip=None, held=None, end=None):
         report = trial.run()
         assert report.ended and end in (None, report.end, report[1:4]), (name, report)
         assert held is None or typed(trial.strip.held) == typed(held), (name, trial.strip.held)
+
+
+CALLS = ("feed", "strip", "load", "open", "rewind", "run", "report")
+
+
+def blocks(lines):
+    """The trials among lines, each with the line that begins it; comments between trials are left out."""
+    parts = []
+    for line in lines:
+        if line.startswith("trial "):
+            parts.append([])
+        if parts and not line.startswith("#"):
+            parts[-1].append(line)
+    return parts
+
+
+def sessions():
+    """Each trial of nothing but a session's calls once more, as one session: its answers are the same."""
+    for questions, answers in zip(blocks(list(asked)), blocks(list(answered)), strict=True):
+        if all(line.split()[0] in CALLS for line in questions[1:]):
+            name = questions[0].removeprefix("trial ")
+            asked.extend([f"session {name}", *questions[1:]])
+            answered.extend([f"session {name}", *answers[1:]])

@@ -12,7 +12,7 @@ use Rattle.vocabulary.specs.World.{Rules}
 use Rattle.machine.specs.State.{Ports}
 use Rattle.sequencer.specs.declared.report.Report.{Report as ReportType}
 use Rattle.sequencer.specs.declared.state.Sequencer.{Sequencer}
-use Rattle.sequencer.specs.Calls.{Begins, Loaded, Opened, Rewound, RunAnswer, programVerdict, runVerdict, told, reportAnswer, Stepped}
+use Rattle.sequencer.specs.Calls.{Begins, Loaded, Opened, Rewound, RunAnswer, programVerdict, told, reportAnswer}
 use Rattle.sequencer.specs.Model.{Model, model}
 use Rattle.session.specs.declared.Call.{Call}
 use Rattle.session.specs.declared.Call.the-variants.{Load, Open, Rewind, Run, Report}

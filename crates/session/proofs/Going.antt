@@ -2,7 +2,7 @@
 -- themselves keeps the law of takes, and its reports are true.
 use mathlib.Core.Path.{_≡_, refl, sym, _∙_, ap, subst}
 use mathlib.Core.Bool.{false}
-use mathlib.Core.List.{List, [], _∷_, _++_}
+use mathlib.Core.List.{List, [], _∷_}
 use Prim.Native.Nat.{ℕ, _+_, _/_, _≤_}
 use native.Mathlib.Omega.{arith}
 use lib.ListN.{length}
@@ -11,7 +11,6 @@ use Rattle.std.specs.declared.option.Option.{Option}
 use Rattle.std.specs.declared.option.Option.the-variants.{Some, None}
 use Rattle.std.specs.declared.result.Result.the-variants.{Ok, Err}
 use Rattle.std.specs.Options.{isSome}
-use Rattle.std.specs.Results.{andOther}
 use Rattle.std.specs.shelf.Lists.{All}
 use Rattle.std.proofs.shelf.Elements.{all-append}
 use Rattle.vocabulary.specs.declared.refusal.Cause.the-variants.{NoProgram}
@@ -39,7 +38,7 @@ use Rattle.session.specs.declared.Call.{Call}
 use Rattle.session.specs.declared.Call.the-variants.{Load, Open, Rewind, Run, Report}
 use Rattle.session.specs.declared.Answer.{Answer}
 use Rattle.session.specs.declared.Answer.the-variants.{Done, Told, Refused}
-use Rattle.session.specs.Acting.{Scene, scene, Decided, Becomes, Acted}
+use Rattle.session.specs.Acting.{Scene, scene, Decided, Acted}
 use Rattle.session.specs.History.{Moment, Chained, OneByOne, Event, event, eventOf, Take, opening, granting, lasting, onward, listed, closed, next, takesFrom, TrueOf, TrueFrom}
 use Rattle.session.specs.History.Event.{begins, beginsAgain, grants, reports, refused}
 use Rattle.session.specs.Law.{worldOf, Law}
@@ -85,7 +84,13 @@ module _ (R : Rules) (limit : 512 ≤ R .limit) where
   at-table : (table : List ℕ) → tableVerdict table ≡ Ok tt → (o : Ports) → At R (opening o o (treeOf (nodesOf table))) (begun (programOf table))
   unfolding taken
   at-table table e o = record {
-      named = well-formed table e .names; small = small table e; code = refl; told = refl; moved = refl; steps = refl }
+    named = well-formed table e .names;
+    small = small table e;
+    code = refl;
+    told = refl;
+    moved = refl;
+    steps = refl;
+  }
 
   at-again : (t : Take) (m : Model) → At R t m → (o : Ports) → At R (opening o o (t .tree)) (rewound m)
   unfolding taken
@@ -102,13 +107,14 @@ module _ (R : Rules) (limit : 512 ≤ R .limit) where
         code = ap codeOf (s .program) ∙ at .code;
         told = refl;
         moved =
-          s .moved ∙ ap (λ c. iterate R c fuel (stateOf m (t .stop))) (at .code)
-          ∙ ap (iterate R prog fuel) (at .moved) ∙ sym (iterate-add R prog (t .granted) fuel from);
+            s .moved ∙ ap (λ c. iterate R c fuel (stateOf m (t .stop))) (at .code)
+            ∙ ap (iterate R prog fuel) (at .moved) ∙ sym (iterate-add R prog (t .granted) fuel from);
         steps =
-          s .steps ∙ ap (λ c. m .steps + taken R c fuel (stateOf m (t .stop))) (at .code)
-          ∙ ap (λ x. m .steps + taken R prog fuel x) (at .moved)
-          ∙ ap (λ n. n + taken R prog fuel (iterate R prog (t .granted) from)) (at .steps)
-          ∙ sym (taken-add R prog (t .granted) fuel from) }
+            s .steps ∙ ap (λ c. m .steps + taken R c fuel (stateOf m (t .stop))) (at .code)
+            ∙ ap (λ x. m .steps + taken R prog fuel x) (at .moved)
+            ∙ ap (λ n. n + taken R prog fuel (iterate R prog (t .granted) from)) (at .steps)
+            ∙ sym (taken-add R prog (t .granted) fuel from);
+      }
 
   -- nothing changes
   stays : (current : Option Take) (m : Model) (o : Ports) → Going R current m o → Going R (onward refused o o current) m o
@@ -187,6 +193,7 @@ module _ (R : Rules) (limit : 512 ≤ R .limit) where
     keeps (x ∷ ms) current m last o exit g c h =
         let g′ : Going R current m (x .before) = subst (Going R current m) (sym (c .0)) g in
         let s = goes current (x .call) (x .answer) m (h .0) (x .before) (x .after) g′ (h .1) in
-        let k = keeps ms (next current x) (h .0) last (x .after) exit (s .on) (c .1) (h .2) in
-        (all-append (Law R) (closed (event x) current) (takesFrom (next current x) ms) (law-closed (event x) current m (x .before) g′) (k .0),
-         (s .truly, k .1))
+        let k = keeps ms (next current x) (h .0) last (x .after) exit (s .on) (c .1) (h .2) in (
+          all-append (Law R) (closed (event x) current) (takesFrom (next current x) ms) (law-closed (event x) current m (x .before) g′) (k .0),
+          (s .truly, k .1),
+        )

@@ -1,12 +1,12 @@
 -- One grant after another is one grant of their sum; and a machine that still runs has made every step it was granted.
-use mathlib.Core.Path.{_≡_, refl, sym, _∙_, ap, subst}
+use mathlib.Core.Path.{_≡_, refl, _∙_, ap}
 use mathlib.Core.List.{List}
 use Prim.Native.Nat.{ℕ, zero, suc, _+_}
 use native.Mathlib.Nat.{zero-add, suc-add}
 use native.Mathlib.Omega.{arith}
 use Rattle.vocabulary.specs.declared.code.Word.{Word}
 use Rattle.vocabulary.specs.World.{Rules}
-use Rattle.machine.specs.Machine.{step, iterate, counted, taken}
+use Rattle.machine.specs.Machine.{step, iterate, taken}
 use Rattle.machine.specs.State.{Config, State}
 use Rattle.machine.specs.State.State.{running, halted, broken}
 use Rattle.agreement.proofs.Steps.{halted-stays, broken-stays}

@@ -1,8 +1,7 @@
 -- The law of a take, from one fact: the state is where as many steps as were granted lead from the take's start. That a take
 -- ends where its tree's meaning ends is then the agreement of trees and code.
-use mathlib.Core.Path.{_≡_, refl, sym, _∙_, ap, subst}
-use mathlib.Core.List.{List, []}
-use mathlib.Core.Logic.{_⊎_, inl, inr, ⊎-elim}
+use mathlib.Core.Path.{_≡_, refl, sym, _∙_, ap}
+use mathlib.Core.List.{[]}
 use Prim.Native.Nat.{ℕ, _+_, _-_, _*_, _≤_}
 use native.Mathlib.Omega.{arith}
 use Rattle.std.specs.declared.option.Option.the-variants.{Some, None}
@@ -17,9 +16,9 @@ use Rattle.machine.specs.declared.tables.Status.{Status}
 use Rattle.machine.specs.declared.tables.Status.the-variants.{Running, Halted, Broken}
 use Rattle.machine.specs.Machine.{iterate, taken, start}
 use Rattle.machine.specs.Seen.{stands}
-use Rattle.machine.specs.State.{Config, Core, Ports, State, joined}
+use Rattle.machine.specs.State.{Core, Ports, State, joined}
 use Rattle.machine.specs.State.State.{running, halted, broken}
-use Rattle.agreement.specs.Agreement.{FirstPart, FirstPartOf, Agrees, Agreement}
+use Rattle.agreement.specs.Agreement.{FirstPart, FirstPartOf, Agrees}
 use Rattle.agreement.proofs.Steps.{onward, halted-stays}
 use Rattle.sequencer.specs.declared.report.Report.{Report}
 use Rattle.sequencer.specs.declared.report.Stop.{Stop}
@@ -63,12 +62,13 @@ halted-stands Broken k o e n w h = let z : _≡_ {A = ℕ} 0 1 = cc in absurd (o
 -- feed and strip are all that a first part speaks of
 of-ports : (before : World) (k : Core) (o : Ports) (later : World) → FirstPart before (joined k o .world) later → FirstPart before (worldOf o) later
 of-ports before k o later p = record {
-    items = p .items;
-    values = p .values;
-    moreItems = p .moreItems;
-    moreValues = p .moreValues;
-    part = record { fed = p .part .fed; held = p .part .held };
-    whole = p .whole }
+  items = p .items;
+  values = p .values;
+  moreItems = p .moreItems;
+  moreValues = p .moreValues;
+  part = record { fed = p .part .fed; held = p .part .held };
+  whole = p .whole;
+}
 
 first-part : (before : World) (k : Core) (o : Ports) (c : Course) → FirstPartOf before (joined k o .world) c → FirstPartOf before (worldOf o) c
 first-part before k o (finished e n w b) f = of-ports before k o w f
@@ -96,8 +96,8 @@ module _ (R : Rules) (t : Take) (m : Model) (agrees : Agrees R (t .tree) (worldO
       (t .told .stop ≡ Some (record { end = e; node = n })) × (t .told .steps ≤ 3 * v + 1)
   ends v e n w h g =
       let there : state (t .granted) ≡ halted e n w =
-              onward R (program (t .tree)) (3 * v + 1) (t .granted - (3 * v + 1)) (t .granted) (start (worldOf (t .start))) (halted e n w) (agrees .soon v e n w h) (omega arith)
-              ∙ halted-stays R (program (t .tree)) (t .granted - (3 * v + 1)) e n w in
+      onward R (program (t .tree)) (3 * v + 1) (t .granted - (3 * v + 1)) (t .granted) (start (worldOf (t .start))) (halted e n w) (agrees .soon v e n w h) (omega arith)
+      ∙ halted-stays R (program (t .tree)) (t .granted - (3 * v + 1)) e n w in
       let s : m .status ≡ Halted e n = halted-stands (m .status) (m .core) (t .stop) e n w (at .moved ∙ there) in
       let few = agrees .steps v e n w h (t .granted) in
       let k = told-steps in
@@ -122,8 +122,9 @@ module _ (R : Rules) (t : Take) (m : Model) (agrees : Agrees R (t .tree) (worldO
 
   pub law : Law R t
   law = record {
-      ends = ends;
-      alike = alike;
-      paid = paid;
-      left = λ h. (joined (m .core) (t .stop), ap state (paid h) ∙ still h, refl);
-      first = first }
+    ends = ends;
+    alike = alike;
+    paid = paid;
+    left = λ h. (joined (m .core) (t .stop), ap state (paid h) ∙ still h, refl);
+    first = first;
+  }

@@ -47,12 +47,13 @@ module _ (R : Rules) where
       record {
         history = s .history ++ (x ∷ []);
         ofCalls =
-          map-append (λ (y : Moment). y .call) (s .history) (x ∷ []) ∙ ap (λ (l : List Call). l ++ (call ∷ [])) (s .ofCalls)
-          ∙ sym (take-more calls i default h);
+            map-append (λ (y : Moment). y .call) (s .history) (x ∷ []) ∙ ap (λ (l : List Call). l ++ (call ∷ [])) (s .ofCalls)
+            ∙ sym (take-more calls i default h);
         ofAnswers =
-          map-append (λ (y : Moment). y .answer) (s .history) (x ∷ []) ∙ ap (λ (l : List Answer). l ++ (a ∷ [])) (s .ofAnswers) ∙ sym e;
+            map-append (λ (y : Moment). y .answer) (s .history) (x ∷ []) ∙ ap (λ (l : List Answer). l ++ (a ∷ [])) (s .ofAnswers) ∙ sym e;
         chained = chained-more entry (s .history) o x refl (s .chained);
-        exact = one-more fresh (s .history) m m′ x d (s .exact) }
+        exact = one-more fresh (s .history) m m′ x d (s .exact);
+      }
 
   pub all-called : Agreement → 512 ≤ R .limit → (calls : List Call) (i : ℕ) (answers : List Answer) (entry : Ports) (m : Model) (o : Ports) →
       length calls ≤ i → SoFar (take i calls) answers entry m o → Session R calls answers entry o
@@ -66,4 +67,5 @@ module _ (R : Rules) where
         last = m;
         exact = s .exact;
         lawful = k .0;
-        truthful = k .1 }
+        truthful = k .1;
+      }

@@ -1,6 +1,5 @@
 -- What one call answers and what it leaves, by the definitions that the contracts of the calls cite.
 use mathlib.Core.Path.{_≡_}
-use Prim.Native.Nat.{ℕ}
 use denote.Ref.{now}
 use Rattle.std.specs.declared.result.Result.{Result}
 use Rattle.std.specs.declared.result.Result.the-variants.{Ok, Err}
@@ -56,6 +55,6 @@ Acted R Rewind before answer after =
     Decided (programVerdict (before .sequencer)) before answer after (Becomes (rewound (before .sequencer)) before answer after)
 Acted R (Run fuel) before answer after =
     Decided (runVerdict (before .sequencer) fuel) before answer after
-      ((answer ≡ Told (told (after .sequencer))) × Stepped R fuel (before .sequencer) (after .sequencer) (before .ports) (after .ports))
+    ((answer ≡ Told (told (after .sequencer))) × Stepped R fuel (before .sequencer) (after .sequencer) (before .ports) (after .ports))
 Acted R Report before answer after =
     Decided (programVerdict (before .sequencer)) before answer after ((answer ≡ Told (told (before .sequencer))) × (after ≡ before))

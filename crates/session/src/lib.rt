@@ -65,7 +65,12 @@ fn told(result: Result<Report, Refusal>) -> Answer
 }
 
 // Carries out one call.
-fn act<F: Feed, S: Strip>(sequencer: &mut Sequencer, call: &Call, feed: &mut F, strip: &mut S) -> Answer
+fn act<F: Feed, S: Strip>(
+    sequencer: &mut Sequencer,
+    call: &Call,
+    feed: &mut F,
+    strip: &mut S,
+) -> Answer
     ensures acted { λ r. ⌜ Acted (rules (S·Strip .price)) (now (call .entry)) (scene (model (now (sequencer .entry))) (between F·Feed S·Strip (now (feed .entry)) (now (strip .entry)))) r (scene (model (now (sequencer .exit))) (between F·Feed S·Strip (now (feed .exit)) (now (strip .exit)))) ⌝ }
     ensures kept { λ _. ⌜ S·Strip .keeps (now (strip .entry)) (now (strip .exit)) ⌝ }
 {
@@ -80,7 +85,12 @@ fn act<F: Feed, S: Strip>(sequencer: &mut Sequencer, call: &Call, feed: &mut F, 
 
 // Carries out the calls in their order, each as it would be by itself, and answers their answers. Where there is no memory
 // for the answers, nothing is done.
-pub fn session<F: Feed, S: Strip>(calls: &[Call], feed: &mut F, strip: &mut S, heap: Global) -> Result<Vec<Answer>, AllocError>
+pub fn session<F: Feed, S: Strip>(
+    calls: &[Call],
+    feed: &mut F,
+    strip: &mut S,
+    heap: Global,
+) -> Result<Vec<Answer>, AllocError>
     ensures law { λ r. ⌜ Cases r (λ answers. Session (rules (S·Strip .price)) (now (calls .entry)) (vec-items answers) (between F·Feed S·Strip (now (feed .entry)) (now (strip .entry))) (between F·Feed S·Strip (now (feed .exit)) (now (strip .exit)))) (λ _. (now (feed .exit) ≡ now (feed .entry)) × (now (strip .exit) ≡ now (strip .entry))) ⌝ }
     ensures kept { λ _. ⌜ S·Strip .keeps (now (strip .entry)) (now (strip .exit)) ⌝ }
 {

@@ -1,14 +1,15 @@
 // What a trial works on: a sequencer, and memory for its sheets.
-use crate::plan::Call;
-use crate::show::print_bytes;
+use crate::plan::Step;
 use crate::show::print_code;
-use crate::show::print_done;
 use crate::show::print_length;
-use crate::show::print_refusal;
-use crate::show::print_report;
 use crate::show::print_sum;
 use ports::feed::Feed;
 use ports::strip::Strip;
+use script::plan::CallPlan;
+use script::show::print_bytes;
+use script::show::print_done;
+use script::show::print_refusal;
+use script::show::print_report;
 use sequencer::state::Sequencer;
 use sheet::half::HalfSheet;
 use std::alloc::Global;
@@ -27,37 +28,44 @@ pub struct Bench {
 
 impl Bench {
     pub fn new(heap: Global) -> Bench {
-        Bench {
-            sequencer: Sequencer::new(),
-            memory: Vec::new(heap),
-            half: None,
+        Bench { sequencer: Sequencer::new(), memory: Vec::new(heap), half: None }
+    }
+
+    // Carries out a call of the sequencer, and prints its answer.
+    fn answer<F: Feed, S: Strip>(
+        &mut self,
+        rt: &LibcRuntime,
+        call: &CallPlan,
+        feed: &mut F,
+        strip: &mut S,
+    ) -> io::Result<()> {
+        match call {
+            CallPlan::Load(table) => print_done(rt, self.sequencer.load(table.as_slice())),
+            CallPlan::Open(sheet) => print_done(rt, self.sequencer.open(sheet.as_slice())),
+            CallPlan::Rewind => print_done(rt, self.sequencer.rewind()),
+            CallPlan::Run(fuel) => print_report(rt, self.sequencer.run(*fuel, feed, strip)),
+            CallPlan::Report => print_report(rt, self.sequencer.report()),
         }
     }
 
-    // Carries out a call, and prints its answer if it has one.
-    pub fn answer<F: Feed, S: Strip>(
+    // Carries out a step, and prints its answer if it has one.
+    pub fn take<F: Feed, S: Strip>(
         &mut self,
         rt: &LibcRuntime,
-        call: &Call,
+        step: &Step,
         feed: &mut F,
         strip: &mut S,
     ) -> Result<(), AnyError> {
-        match call {
-            Call::Load(table) => Ok(print_done(rt, self.sequencer.load(table.as_slice()))?),
-            Call::Open(sheet) => Ok(print_done(rt, self.sequencer.open(sheet.as_slice()))?),
-            Call::Rewind => Ok(print_done(rt, self.sequencer.rewind())?),
-            Call::Run(fuel) => Ok(print_report(rt, self.sequencer.run(*fuel, feed, strip))?),
-            Call::Report => Ok(print_report(rt, self.sequencer.report())?),
-            Call::Code => Ok(print_code(rt, self.sequencer.code())?),
-            Call::Sum => Ok(print_sum(rt, self.sequencer.nodes(), self.sequencer.code())?),
-            Call::Paper(size) => self.lay_out(rt.alloc(), *size),
-            Call::Start => Ok(self.start(rt)?),
-            Call::Finish => self.finish(rt),
-            Call::Archive => Ok(
-                print_length(rt, self.sequencer.archive(self.memory.as_mut_slice()))?,
-            ),
-            Call::Poke(at, value) => self.poke(*at, *value),
-            Call::Look => Ok(print_bytes(rt, "memory", self.memory.as_slice())?),
+        match step {
+            Step::Call(call) => Ok(self.answer(rt, call, feed, strip)?),
+            Step::Code => Ok(print_code(rt, self.sequencer.code())?),
+            Step::Sum => Ok(print_sum(rt, self.sequencer.nodes(), self.sequencer.code())?),
+            Step::Paper(size) => self.lay_out(rt.alloc(), *size),
+            Step::Start => Ok(self.start(rt)?),
+            Step::Finish => self.finish(rt),
+            Step::Archive => Ok(print_length(rt, self.sequencer.archive(self.memory.as_mut_slice()))?),
+            Step::Poke(at, value) => self.poke(*at, *value),
+            Step::Look => Ok(print_bytes(rt, "memory", self.memory.as_slice())?),
         }
     }
 

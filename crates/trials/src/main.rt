@@ -7,34 +7,32 @@ mod plan;
 mod read;
 mod show;
 
-use carry::carry_out;
-use plan::FeedPlan;
+use carry::carry_out_trial;
 use plan::Line;
-use plan::Part;
-use plan::StripPlan;
+use plan::Step;
 use plan::Trial;
+use plan::Work;
 use read::read_line;
+use script::plan::FeedPlan;
+use script::plan::Part;
+use script::plan::StripPlan;
 use std::alloc::Global;
 use std::error::AnyError;
 use std::io::BufRead;
 use std::io::BufReader;
 
 // A trial without calls, over an empty feed and a strip without space.
-fn new_trial(heap: Global, name: String) -> Trial {
-    Trial {
-        name,
-        feed: FeedPlan::Trace(Vec::new(heap)),
-        strip: StripPlan::Records(0),
-        calls: Vec::new(heap),
-    }
+fn new_trial(heap: Global, name: String, work: Work) -> Trial {
+    Trial { name, feed: FeedPlan::Trace(Vec::new(heap)), strip: StripPlan::Records(0), work }
 }
 
 fn finish(rt: &LibcRuntime, trial: Option<Trial>) -> Result<(), AnyError> {
     match trial {
         Some(trial) => {
-            let name = trial.name.as_str();
-            println!(rt, "trial {name}")?;
-            carry_out(rt, &trial)
+            rt.print(trial.work.word())?;
+            rt.print(" ")?;
+            rt.println(trial.name.as_str())?;
+            carry_out_trial(rt, &trial)
         }
         None => Ok(()),
     }
@@ -44,9 +42,16 @@ fn add(trial: &mut Trial, part: Part) -> Result<(), AnyError> {
     match part {
         Part::Feed(feed) => drop(std::mem::replace(&mut trial.feed, feed)),
         Part::Strip(strip) => trial.strip = strip,
-        Part::Call(call) => trial.calls.push(call)?,
+        Part::Call(call) => trial.work.add(Step::Call(call))?,
     }
     Ok(())
+}
+
+fn begun(trial: &mut Option<Trial>) -> Result<&mut Trial, AnyError> {
+    match trial {
+        Some(current) => Ok(current),
+        None => Err("no trial has begun".into()),
+    }
 }
 
 // A line that begins a trial has the one before carried out; any other adds to the trial.
@@ -54,13 +59,15 @@ fn take_line(rt: &LibcRuntime, trial: &mut Option<Trial>, text: &str) -> Result<
     match read_line(rt.alloc(), text)? {
         Line::Nothing => Ok(()),
         Line::Trial(name) => {
-            let before = trial.replace(new_trial(rt.alloc(), name));
+            let before = trial.replace(new_trial(rt.alloc(), name, Work::Steps(Vec::new(rt.alloc()))));
             finish(rt, before)
         }
-        Line::Part(part) => match trial {
-            Some(current) => add(current, part),
-            None => Err("no trial has begun".into()),
-        },
+        Line::Session(name) => {
+            let before = trial.replace(new_trial(rt.alloc(), name, Work::Session(Vec::new(rt.alloc()))));
+            finish(rt, before)
+        }
+        Line::Part(part) => add(begun(trial)?, part),
+        Line::Step(step) => begun(trial)?.work.add(step),
     }
 }
 

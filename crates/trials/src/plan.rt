@@ -1,28 +1,14 @@
 // What stands on standard input, as values.
-use ports::trace::Record;
+use script::plan::CallPlan;
+use script::plan::FeedPlan;
+use script::plan::Part;
+use script::plan::StripPlan;
+use std::error::AnyError;
 
-// Where the readings of a trial come from.
+// What is asked of the sequencer, and of the memory that sheets are written to.
 #[derive(Drop)]
-pub enum FeedPlan {
-    Trace(Vec<Record>),
-    Ramp(i32, i32, u16),
-}
-
-// Where its values go: a strip over so many elements of fresh memory.
-#[derive(Clone, Copy)]
-pub enum StripPlan {
-    Records(usize),
-    Text(usize),
-}
-
-// What is asked of the sequencer and of the memory that sheets are written to.
-#[derive(Drop)]
-pub enum Call {
-    Load(Vec<u8>),
-    Open(Vec<u8>),
-    Rewind,
-    Run(u32),
-    Report,
+pub enum Step {
+    Call(CallPlan),
     // the words of the code
     Code,
     // how many nodes and words there are, and a sum over both
@@ -38,27 +24,46 @@ pub enum Call {
     Look,
 }
 
-// A trial: calls of a new sequencer, between one feed and one strip.
+// What is tried: steps one by one, or calls as one session.
+#[derive(Drop)]
+pub enum Work {
+    Steps(Vec<Step>),
+    Session(Vec<CallPlan>),
+}
+
+impl Work {
+    // The word that begins such a trial.
+    pub fn word(&self) -> &'static str {
+        match self {
+            Work::Steps(_) => "trial",
+            Work::Session(_) => "session",
+        }
+    }
+
+    pub fn add(&mut self, step: Step) -> Result<(), AnyError> {
+        match (self, step) {
+            (Work::Steps(steps), step) => Ok(steps.push(step)?),
+            (Work::Session(calls), Step::Call(call)) => Ok(calls.push(call)?),
+            (Work::Session(_), _) => Err("a session has calls only".into()),
+        }
+    }
+}
+
+// A trial: work with a new sequencer, between one feed and one strip.
 #[derive(Drop)]
 pub struct Trial {
     pub name: String,
     pub feed: FeedPlan,
     pub strip: StripPlan,
-    pub calls: Vec<Call>,
+    pub work: Work,
 }
 
-// What a line adds to a trial.
-#[derive(Drop)]
-pub enum Part {
-    Feed(FeedPlan),
-    Strip(StripPlan),
-    Call(Call),
-}
-
-// What one line says.
+// What one line says: it begins a trial, or adds to one.
 #[derive(Drop)]
 pub enum Line {
     Nothing,
     Trial(String),
+    Session(String),
     Part(Part),
+    Step(Step),
 }

@@ -22,5 +22,6 @@ loop-call-again g c = (
 
 pub returns : need.returns
 returns g c = record {
-    law = all-called _ agreement (omega arith) _ _ _ _ _ _ (c .loop-call-test .left) (c .loop-call .inv .0);
-    kept = c .loop-call .inv .3 }
+  law = all-called _ agreement (omega arith) _ _ _ _ _ _ (c .loop-call-test .left) (c .loop-call .inv .0);
+  kept = c .loop-call .inv .3;
+}
