@@ -83,6 +83,8 @@ def long():
     heading("the fuel of a take: a thousand million, reached and not passed")
     with Trial("thousand-million") as trial:
         trial.load(("while", True, ("while", False, SEVEN)))
+        # listing the code keeps this trial, which takes seconds, from being tried as a session too
+        trial.code()
         for _ in range(999):
             trial.run()
         for fuel in (999_999, 2, 1_000_000, 1, 0, 1, 1_000_000, 4_294_967_295):

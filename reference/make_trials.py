@@ -6,19 +6,17 @@ Nothing here looks at what the crates do. What is known of an output from elsewh
 import pathlib
 
 import chance
+import documents
 import large
 import ports
 import programs
 import refusals
 import sheets
-import small
 import writer
 
 
 def main():
-    small.check_documents()
-    small.check_refusals()
-    small.check_sheets()
+    documents.main()
     for module in (programs, refusals, sheets, ports, chance, large):
         for part in module.PARTS:
             part()

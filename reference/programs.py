@@ -1,7 +1,7 @@
 """Trials of accepted programs."""
 
-from small import COUNTDOWN, LEAST, MOST, READ, SEVEN, Fault, RecordStrip, TextStrip, assemble, result_of, Ended
-from writer import Trial, heading, over_ramp, refused_ramp, whole
+from small import COUNTDOWN, LEAST, MOST, READ, SEVEN, Ended, Fault, RecordStrip, TextStrip, assemble, result_of
+from writer import Trial, heading, whole
 
 SKIP = ("while", False, ("out", 0))
 
