@@ -91,7 +91,8 @@ def sheets():
     memory[20] ^= 1
     assert refusal_of(sequencer.finish, memory) == (13, 0)
     memory[20] ^= 1
-    assert sequencer.finish(memory) == 64 and memory == sheet + b"\xff" * 6
+    length = sequencer.finish(memory)
+    assert length == 64 and memory == sheet + b"\xff" * 6
 
 
 def main():
