@@ -102,7 +102,7 @@ class Trial:
 
     def paper(self, size):
         """Fresh memory for a sheet."""
-        asked.append(f"paper {size}")
+        asked.append(f"memory {size}")
         self.memory = bytearray(b"\xff" * size)
 
     def poke(self, at, value):

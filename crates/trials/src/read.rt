@@ -11,7 +11,7 @@ fn step_of(words: &[&str]) -> Result<Option<Step>, AnyError> {
     Ok(match words {
         ["code"] => Some(Step::Code),
         ["sum"] => Some(Step::Sum),
-        ["paper", size] => Some(Step::Paper(size.parse::<usize>()?)),
+        ["memory", size] => Some(Step::Paper(size.parse::<usize>()?)),
         ["start"] => Some(Step::Start),
         ["finish"] => Some(Step::Finish),
         ["archive"] => Some(Step::Archive),
