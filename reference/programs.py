@@ -277,7 +277,7 @@ def scopes():
 
 
 def published():
-    heading("published programs, with the outputs printed beside them")
+    heading("published programs; what they put is known from print or worked out by hand")
     in_range = both(greater("num", 9), ("<", "num", 100))
     add = ("if", in_range, ("set", "sum", ("+", "sum", "num")), SKIP)
     start = (("set", "sum", 0), ("set", "num", READ))
