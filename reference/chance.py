@@ -180,7 +180,8 @@ def accepted():
     ends = {}
     for number in range(150):
         with Trial(f"chance-{number}", feed_of(dice), strip_of(dice)) as trial:
-            assert trial.load(author.table(6, 15, 70)) is None
+            answer = trial.load(author.table(6, 15, 70))
+            assert answer is None
             trial.sum()
             carried(trial, dice)
             report = trial.sequencer.report()

@@ -85,13 +85,15 @@ def sheets():
         assert refusal_of(open_sheet, bytes(changed)) == (14, 0)
     memory = bytearray(b"\xff" * 70)
     assert refusal_of(sequencer.start, bytearray(63)) == (12, 0)
-    assert refusal_of(sequencer.finish, memory) == (13, 0)
-    sequencer.start(memory)
+    half = sequencer.start(bytearray(64))
+    assert refusal_of(sequencer.finish, memory, half) == (13, 0)
+    half = sequencer.start(memory)
     assert memory == half_sheet(sequencer.nodes) + b"\xff" * 38
     memory[20] ^= 1
-    assert refusal_of(sequencer.finish, memory) == (13, 0)
+    assert refusal_of(sequencer.finish, memory, half) == (13, 0)
     memory[20] ^= 1
-    assert sequencer.finish(memory) == 64 and memory == sheet + b"\xff" * 6
+    length = sequencer.finish(memory, half)
+    assert length == 64 and memory == sheet + b"\xff" * 6
 
 
 def main():

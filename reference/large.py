@@ -79,6 +79,21 @@ def wide():
     carried("wide-hidden", ("block", ("with", ("const", "x", 5), *(("const", "y", 1) for _ in range(160))), ("out", ("*", "x", "y"))))
 
 
+def rounds():
+    heading("more rounds than any table has places: blocks and calls give back what they took")
+    double = ("fun", "double", "u", ("+", "u", "u"))
+    names = ("with", ("var", "z", ("apply", "double", "y")), ("const", "c", "z"))
+    count = ("proc", "count", "y", ("block", names, ("do", ("set", "y", "c"), ("set", "sum", ("+", "sum", "z")))))
+    # x is n, then by the procedure 2 n, so that n falls by 1
+    fall = ("set", "n", ("-", "n", ("/", "x", ("+", "n", "n"))))
+    one = ("block", ("var", "x", "n"), ("do", ("call", "count", "x"), fall))
+    scope = ("with", ("var", "sum", 0), double, count, ("var", "n", 2000))
+    with Trial("rounds") as trial:
+        trial.load(("block", scope, ("do", ("while", ("<", 0, "n"), one), ("out", "sum"))))
+        trial.run()
+        assert trial.strip.held == [2000 * 2001]
+
+
 def long():
     heading("the fuel of a take: a thousand million, reached and not passed")
     with Trial("thousand-million") as trial:
@@ -95,4 +110,4 @@ def long():
         trial.report()
 
 
-PARTS = [deep, wide, long]
+PARTS = [deep, wide, rounds, long]

@@ -15,7 +15,8 @@ def strips():
         for space in (line, line - 1):
             with Trial(f"text-{value}-in-{space}", [value], TextStrip(space)) as trial:
                 trial.load(("out", READ))
-                assert trial.run().end == (0 if space == line else 38)
+                report = trial.run()
+                assert report.end == (0 if space == line else 38)
     for truth, line in ((True, 5), (False, 6)):
         for space in (line, line - 1):
             whole(f"text-{str(truth).lower()}-in-{space}", ("out", truth), strip=TextStrip(space), end=0 if space == line else 38)
@@ -60,8 +61,8 @@ def feeds():
     ]:
         with over_ramp(name, start, step, count) as trial:
             trial.load(COPY)
-            assert trial.run().end == 36
-            assert len(trial.strip.held) == count
+            report = trial.run()
+            assert report.end == 36 and len(trial.strip.held) == count
     with over_ramp("ramp-left", 10, 10, 6) as trial:
         trial.load(("do", ("out", READ), ("out", ("+", READ, READ))))
         trial.run()

@@ -136,12 +136,14 @@ def operators():
         name = "sum difference product quotient equal less".split()[number - 1]
         with Trial(f"{name}-results", plain, TextStrip(6000)) as trial:
             trial.load(("while", True, ("out", (sign, READ, READ))))
-            assert trial.run().end == 36
+            report = trial.run()
+            assert report.end == 36
         if ends:
             with Trial(f"{name}-ends", ends) as trial:
                 for _ in range(len(ends) // 2):
                     trial.load(("out", (sign, READ, READ)))
-                    assert trial.run().end in (34, 35)
+                    report = trial.run()
+                    assert report.end in (34, 35)
 
 
 def ends():
@@ -275,7 +277,7 @@ def scopes():
 
 
 def published():
-    heading("published programs, with the outputs printed beside them")
+    heading("published programs; what they put is known from print or worked out by hand")
     in_range = both(greater("num", 9), ("<", "num", 100))
     add = ("if", in_range, ("set", "sum", ("+", "sum", "num")), SKIP)
     start = (("set", "sum", 0), ("set", "num", READ))

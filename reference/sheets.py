@@ -77,6 +77,21 @@ def writing():
         trial.finish()
         trial.look()
         trial.run()
+    with Trial("half-of-another-program") as trial:
+        trial.load(SEVEN)
+        trial.paper(200)
+        trial.start()
+        trial.load(("set", 3, READ))
+        for at, value in enumerate(half_sheet(trial.sequencer.nodes)):
+            trial.poke(at, value)
+        trial.finish()
+        trial.look()
+        trial.load(("out", 8))
+        trial.paper(64)
+        for at, value in enumerate(half_sheet(trial.sequencer.nodes)):
+            trial.poke(at, value)
+        trial.finish()
+        trial.look()
     with Trial("archives") as trial:
         for program in (SEVEN, COUNTDOWN, ("out", -7), ("while", True, ("out", READ))):
             trial.load(program)

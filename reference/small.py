@@ -788,6 +788,12 @@ def open_sheet(sheet):
 # ---------------------------------------------------------------------------------------------- the calls
 
 
+class HalfSheet(NamedTuple):
+    """What start hands to finish: how many nodes it wrote."""
+
+    count: int
+
+
 class Report(NamedTuple):
     ended: bool
     end: int
@@ -847,18 +853,17 @@ class Sequencer:
             raise Refused(12)
         half = half_sheet(self.nodes)
         memory[: len(half)] = half
-        return "half"
+        return HalfSheet(len(self.nodes))
 
     def archive(self, memory):
-        self.start(memory)
-        return self.finish(memory)
+        return self.finish(memory, self.start(memory))
 
-    def finish(self, memory):
+    def finish(self, memory, started):
         self.need_program()
         sheet, half = full_sheet(self.nodes, self.code), half_sheet(self.nodes)
         if len(memory) < len(sheet):
             raise Refused(12)
-        if memory[: len(half)] != half:
+        if started.count != len(self.nodes) or memory[: len(half)] != half:
             raise Refused(13)
         memory[: len(sheet)] = sheet
         return len(sheet)

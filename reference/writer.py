@@ -1,6 +1,6 @@
 """Writing trials down: each call of a trial as a line of input, with what the reference answers as a line of output."""
 
-from small import Fault, RecordStrip, Refused, Sequencer, TextStrip, Trace, assemble, is_truth, ramp, table_of, typed
+from small import Fault, HalfSheet, RecordStrip, Refused, Sequencer, TextStrip, Trace, assemble, is_truth, ramp, table_of, typed
 
 RUN_FUEL = 1_000_000
 
@@ -32,7 +32,7 @@ def fnv(data):
 def spelled(answer):
     if answer is None:
         return "done"
-    if answer == "half":
+    if isinstance(answer, HalfSheet):
         return "half"
     if isinstance(answer, int):
         return f"length {answer}"
@@ -43,7 +43,7 @@ class Trial:
     """A trial of a new sequencer, between one feed and one strip."""
 
     def __init__(self, name, feed=(), strip=None, feed_line=None):
-        self.sequencer, self.memory = Sequencer(), bytearray()
+        self.sequencer, self.memory, self.half = Sequencer(), bytearray(), None
         self.feed = feed if isinstance(feed, Trace) else Trace(feed)
         self.strip = RecordStrip(64) if strip is None else strip
         begin(name, feed_line or line_of("feed trace", *map(word_of, self.feed.items)), self.strip)
@@ -114,10 +114,13 @@ class Trial:
         answered.append(line_of("memory", *filter(None, [self.memory.hex()])))
 
     def start(self):
-        self.call("start", self.sequencer.start, self.memory)
+        answer = self.call("start", self.sequencer.start, self.memory)
+        self.half = answer if isinstance(answer, HalfSheet) else self.half
 
     def finish(self):
-        self.call("finish", self.sequencer.finish, self.memory)
+        """Spends the half sheet; a refusal hands it back."""
+        answer = self.call("finish", self.sequencer.finish, self.memory, self.half)
+        self.half = None if isinstance(answer, int) else self.half
 
     def archive(self):
         self.call("archive", self.sequencer.archive, self.memory)
