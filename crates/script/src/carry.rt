@@ -33,11 +33,10 @@ fn onto_records<F: Feed, J: Job>(rt: &LibcRuntime, job: &J, feed: &mut F, size: 
         strip.used()
     };
     print_feed(rt, feed)?;
-    if used <= memory.len() {
-        let space = memory.len() - used;
-        print_records(rt, &memory[0..used])?;
-        println!(rt, "space {space}")?;
-    }
+    let filled = used.min(memory.len());
+    let space = memory.len() - filled;
+    print_records(rt, &memory[0..filled])?;
+    println!(rt, "space {space}")?;
     Ok(())
 }
 
@@ -49,12 +48,11 @@ fn onto_text<F: Feed, J: Job>(rt: &LibcRuntime, job: &J, feed: &mut F, size: usi
         strip.used()
     };
     print_feed(rt, feed)?;
-    if used <= memory.len() {
-        let space = memory.len() - used;
-        print_lines(rt, &memory[0..used])?;
-        println!(rt, "space {space}")?;
-        print_bytes(rt, "text", &memory[0..used])?;
-    }
+    let filled = used.min(memory.len());
+    let space = memory.len() - filled;
+    print_lines(rt, &memory[0..filled])?;
+    println!(rt, "space {space}")?;
+    print_bytes(rt, "text", &memory[0..filled])?;
     Ok(())
 }
 

@@ -33,10 +33,12 @@ fn bytes_in(heap: Global, word: &str) -> Result<Vec<u8>, AnyError> {
 
 // A reading, or a fault as `fault:3`.
 fn record_in(word: &str) -> Result<Record, AnyError> {
-    match word.strip_prefix("fault:") {
-        Some("0") => Err("a fault's code is 1 to 255".into()),
-        Some(code) => Ok(Record { code: code.parse::<u8>()?, reading: 0 }),
-        None => Ok(Record { code: 0, reading: word.parse::<i32>()? }),
+    let Some(digits) = word.strip_prefix("fault:") else {
+        return Ok(Record { code: 0, reading: word.parse::<i32>()? });
+    };
+    match digits.parse::<u8>()? {
+        0 => Err("a fault's code is 1 to 255".into()),
+        code => Ok(Record { code, reading: 0 }),
     }
 }
 

@@ -67,9 +67,7 @@ pub fn demonstrate(rt: &LibcRuntime) -> io::Result<()> {
         strip.used()
     };
     println!(rt, "strip: {used} of 16 bytes")?;
-    if used <= 16 {
-        print_text(rt, &memory[0..used])?;
-    }
+    print_text(rt, &memory[0..used.min(16)])?;
     match feed.take() {
         Some(_) => println!(rt, "feed: the reading still waits"),
         None => println!(rt, "feed: empty"),
