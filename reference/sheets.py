@@ -124,6 +124,10 @@ def opening():
         trial.run()
         trial.open(sheet_of(MOST))
         trial.sum()
+    with Trial("one-byte-changed") as trial:
+        for sheet in (seven, countdown):
+            trial.flips(sheet)
+        trial.report()
     with Trial("rewind-when-new") as trial:
         trial.rewind()
     with Trial("header") as trial:

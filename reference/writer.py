@@ -113,6 +113,20 @@ class Trial:
         asked.append("look")
         answered.append(line_of("memory", *filter(None, [self.memory.hex()])))
 
+    def flips(self, sheet):
+        """Opens each sheet that differs from this one in one byte: how many are refused, and how many there are."""
+        refused = tried = 0
+        for at in range(len(sheet)):
+            for change in range(1, 256):
+                tried += 1
+                try:
+                    self.sequencer.open(sheet[:at] + bytes([sheet[at] ^ change]) + sheet[at + 1 :])
+                except Refused:
+                    refused += 1
+        assert refused == tried == 255 * len(sheet)
+        asked.append(f"flips {sheet.hex()}")
+        answered.append(f"flips {refused} {tried}")
+
     def start(self):
         answer = self.call("start", self.sequencer.start, self.memory)
         self.half = answer if isinstance(answer, HalfSheet) else self.half

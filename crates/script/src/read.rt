@@ -16,7 +16,7 @@ fn hex_digit(byte: u8) -> Result<u8, AnyError> {
 }
 
 // The bytes that a word gives in base 16; `-` gives none.
-fn bytes_in(heap: Global, word: &str) -> Result<Vec<u8>, AnyError> {
+pub fn bytes_in(heap: Global, word: &str) -> Result<Vec<u8>, AnyError> {
     let mut bytes = Vec::new(heap);
     if word == "-" {
         return Ok(bytes);

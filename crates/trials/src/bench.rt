@@ -66,7 +66,27 @@ impl Bench {
             Step::Archive => Ok(print_length(rt, self.sequencer.archive(self.memory.as_mut_slice()))?),
             Step::Poke(at, value) => self.poke(*at, *value),
             Step::Look => Ok(print_bytes(rt, "memory", self.memory.as_slice())?),
+            Step::Flips(sheet) => self.flips(rt, sheet.as_slice()),
         }
+    }
+
+    // Prints how many of the sheets that differ from this one in one byte are refused, and how many there are.
+    fn flips(&mut self, rt: &LibcRuntime, sheet: &[u8]) -> Result<(), AnyError> {
+        let mut copy = sheet.to_vec(rt.alloc())?;
+        let mut refused = 0u32;
+        let mut tried = 0u32;
+        for at in 0..sheet.len() {
+            for change in 1..=255u8 {
+                flip(&mut copy, at, change);
+                tried = tried.saturating_add(1);
+                if self.sequencer.open(copy.as_slice()).is_err() {
+                    refused = refused.saturating_add(1);
+                }
+                flip(&mut copy, at, change);
+            }
+        }
+        println!(rt, "flips {refused} {tried}")?;
+        Ok(())
     }
 
     fn lay_out(&mut self, heap: Global, size: usize) -> Result<(), AnyError> {
@@ -108,5 +128,12 @@ impl Bench {
             }
         }
         Ok(())
+    }
+}
+
+// Changes some bits of one byte; twice the same change is none.
+fn flip(bytes: &mut Vec<u8>, at: usize, change: u8) {
+    if let Some(byte) = bytes.get_mut(at) {
+        *byte ^= change;
     }
 }

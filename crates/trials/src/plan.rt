@@ -22,6 +22,8 @@ pub enum Step {
     Poke(usize, u8),
     // the bytes of the memory
     Look,
+    // each sheet that differs from this one in one byte is opened
+    Flips(Vec<u8>),
 }
 
 // What is tried: steps one by one, or calls as one session.
