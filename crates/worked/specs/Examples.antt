@@ -20,8 +20,9 @@ use Rattle.language.specs.Verdicts.{tableVerdict}
 use Rattle.machine.specs.Machine.{iterate, taken, start}
 use Rattle.machine.specs.State.State.{halted}
 use Rattle.ports.specs.Lines.{lineLength}
+use Rattle.sheet.specs.Faithful.{programOf}
 use Rattle.sheet.specs.Layout.{sheetOf, halfOf, header, two}
-use Rattle.worked.specs.Programs.{number, treeIn, codeIn, programIn, oneOutput, countdown, outputOf, assignToNumber, outputRead, assignParameter}
+use Rattle.worked.specs.Programs.{number, treeIn, codeIn, oneOutput, countdown, outputOf, assignToNumber, outputRead, assignParameter}
 
 -- the rules with a price of 1 for each value, and those of a text strip
 abbrev pub onRecords : Rules
@@ -49,15 +50,15 @@ pub record Examples : Type 0 where
   -- one output of 7: 2 visits, 4 steps, and a sheet of 64 bytes
   pub one-output : Ends onRecords oneOutput (spaced 9) 2 4 Halt 1 (holding (Number (pos 7) ∷ []) 8)
   pub one-output-code : codeIn oneOutput ≡ word (Num (pos 7)) 0 ∷ word Deref 0 ∷ word Put 1 ∷ word HaltWord 1 ∷ []
-  pub one-output-size : length (sheetOf (programIn oneOutput)) ≡ 64
+  pub one-output-size : length (sheetOf (programOf oneOutput)) ≡ 64
   pub one-output-sheet :
-      sheetOf (programIn oneOutput)
+      sheetOf (programOf oneOutput)
       ≡ 1 ∷ 0 ∷ 2 ∷ 0 ∷ 4 ∷ 0 ∷ 16 ∷ 0 ∷ 32 ∷ 0 ∷ 64 ∷ 0 ∷ 0 ∷ 0 ∷ 0 ∷ 0
       ∷ 20 ∷ 0 ∷ 0 ∷ 0 ∷ 7 ∷ 0 ∷ 0 ∷ 0 ∷ 2 ∷ 0 ∷ 0 ∷ 0 ∷ 0 ∷ 0 ∷ 0 ∷ 0
       ∷ 1 ∷ 0 ∷ 0 ∷ 0 ∷ 7 ∷ 0 ∷ 0 ∷ 0 ∷ 5 ∷ 0 ∷ 0 ∷ 0 ∷ 0 ∷ 0 ∷ 0 ∷ 0
       ∷ 13 ∷ 0 ∷ 1 ∷ 0 ∷ 0 ∷ 0 ∷ 0 ∷ 0 ∷ 19 ∷ 0 ∷ 1 ∷ 0 ∷ 0 ∷ 0 ∷ 0 ∷ 0 ∷ []
   pub one-output-half :
-      halfOf (programIn oneOutput)
+      halfOf (programOf oneOutput)
       ≡ 1 ∷ 0 ∷ 2 ∷ 0 ∷ 0 ∷ 0 ∷ 16 ∷ 0 ∷ 0 ∷ 0 ∷ 0 ∷ 0 ∷ 0 ∷ 0 ∷ 0 ∷ 0
       ∷ 20 ∷ 0 ∷ 0 ∷ 0 ∷ 7 ∷ 0 ∷ 0 ∷ 0 ∷ 2 ∷ 0 ∷ 0 ∷ 0 ∷ 0 ∷ 0 ∷ 0 ∷ 0 ∷ []
   -- a countdown from 2 over 15 nodes: 26 instructions, 31 visits, and 53 steps, so that fuel 52 is too little

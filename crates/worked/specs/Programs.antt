@@ -5,7 +5,7 @@ use Rattle.language.specs.Reading.{treeOf}
 use Rattle.language.specs.Table.{nodesOf}
 use Rattle.language.specs.Translation.{program}
 use Rattle.language.specs.Tree.{Command}
-use Rattle.sheet.specs.Layout.{Program, two}
+use Rattle.sheet.specs.Layout.{two}
 use Rattle.vocabulary.specs.declared.code.Word.{Word}
 
 -- the 8 bytes of a node
@@ -22,15 +22,12 @@ output a = node 2 0 a 0 0
 abbrev pub name : ℕ → List ℕ
 name x = node 23 x 0 0 0
 
--- the tree of a table, its code, and both as a sheet has them
+-- the tree of a table, and its code
 abbrev pub treeIn : List ℕ → Command
 treeIn table = treeOf (nodesOf table)
 
 abbrev pub codeIn : List ℕ → List Word
 codeIn table = program (treeIn table)
-
-abbrev pub programIn : List ℕ → Program
-programIn table = record { nodes = nodesOf table; code = codeIn table }
 
 -- output 7
 abbrev pub oneOutput : List ℕ

@@ -12,10 +12,11 @@ use Rattle.vocabulary.specs.declared.refusal.Cause.the-variants.{NoProgram, Tab
 use Rattle.vocabulary.specs.Refusals.{refusal}
 use Rattle.language.specs.Verdicts.{tableVerdict}
 use Rattle.ports.specs.Ramps.{rampFits}
+use Rattle.sheet.specs.Faithful.{programOf}
 use Rattle.sheet.specs.Layout.{sheetOf, halfOf}
 use Rattle.sheet.specs.Sheets.{startVerdict, finishVerdict, openVerdict}
 use Rattle.sheet.specs.Writing.{halfSheetOf}
-use Rattle.worked.specs.Programs.{node, number, output, name, programIn, oneOutput}
+use Rattle.worked.specs.Programs.{node, number, output, name, oneOutput}
 
 -- the table is refused with this cause at this node
 abbrev pub Refuses : List ℕ → Cause → ℕ → Type 0
@@ -23,7 +24,7 @@ Refuses table cause n = tableVerdict table ≡ Err (refusal cause n)
 
 -- a program, and a memory of 64 bytes in which its half sheet was begun
 abbrev pub begun : List ℕ
-begun = halfOf (programIn oneOutput) ++ replicate 32 0
+begun = halfOf (programOf oneOutput) ++ replicate 32 0
 
 pub record RefusedExamples : Type 0 where
   -- 7 bytes; none; 513 nodes
@@ -46,14 +47,14 @@ pub record RefusedExamples : Type 0 where
   pub procedure-as-value : Refuses (number 7 0 ++ (output 0 ++ (node 12 1 1 0 2 ++ (name 1 ++ (output 3 ++ node 5 0 2 4 0))))) NameRole 3
   -- no program; 63 bytes for a sheet of 64, which 64 suffice for
   pub nothing-loaded : startVerdict None 64 ≡ Err (refusal NoProgram 0)
-  pub one-byte-short : startVerdict (Some (programIn oneOutput)) 63 ≡ Err (refusal MemoryShort 0)
-  pub just-enough : startVerdict (Some (programIn oneOutput)) 64 ≡ Ok tt
+  pub one-byte-short : startVerdict (Some (programOf oneOutput)) 63 ≡ Err (refusal MemoryShort 0)
+  pub just-enough : startVerdict (Some (programOf oneOutput)) 64 ≡ Ok tt
   -- a node of the half sheet overwritten
-  pub overwritten : finishVerdict (Some (programIn oneOutput)) (halfSheetOf (programIn oneOutput)) (set begun 20 8) ≡ Err (refusal NotThisHalf 0)
-  pub as-begun : finishVerdict (Some (programIn oneOutput)) (halfSheetOf (programIn oneOutput)) begun ≡ Ok tt
+  pub overwritten : finishVerdict (Some (programOf oneOutput)) (halfSheetOf (programOf oneOutput)) (set begun 20 8) ≡ Err (refusal NotThisHalf 0)
+  pub as-begun : finishVerdict (Some (programOf oneOutput)) (halfSheetOf (programOf oneOutput)) begun ≡ Ok tt
   -- 15 bytes of a sheet; its operand 7 changed into 8
-  pub fifteen-bytes : openVerdict (take 15 (sheetOf (programIn oneOutput))) ≡ Err (refusal SheetHeader 0)
-  pub other-operand : openVerdict (set (sheetOf (programIn oneOutput)) 36 8) ≡ Err (refusal NotTheTranslation 0)
-  pub as-written : openVerdict (sheetOf (programIn oneOutput)) ≡ Ok tt
+  pub fifteen-bytes : openVerdict (take 15 (sheetOf (programOf oneOutput))) ≡ Err (refusal SheetHeader 0)
+  pub other-operand : openVerdict (set (sheetOf (programOf oneOutput)) 36 8) ≡ Err (refusal NotTheTranslation 0)
+  pub as-written : openVerdict (sheetOf (programOf oneOutput)) ≡ Ok tt
   -- a ramp of 2147483647 and one more
   pub ramp-too-high : rampFits (pos 2147483647) (pos 1) 2 ≡ false
