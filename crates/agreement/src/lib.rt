@@ -1,5 +1,7 @@
 // The agreement of trees and code. The functions do nothing: each is there for its contract, which is a theorem about the
 // definitions that the contracts of the language and of the machine cite.
+#![tactic(auto)]
+
 ghost use Rattle.agreement.specs.Agreement.{Agreement, ExactVisits};
 
 // What the machine does with the code of a tree is what the tree means.

@@ -7,6 +7,8 @@
 //
 // Not pinned, and owed by a caller outside of Rattle: that pointers and lengths are good, and that what is lent for writing
 // overlaps with nothing else. Nothing is said of time and stack.
+#![tactic(auto)]
+
 pub mod answers;
 pub mod calls;
 pub mod data;

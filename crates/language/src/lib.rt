@@ -1,4 +1,6 @@
 // The language Small: what a table of nodes has to keep, the tree that it holds, its names, its code and its meaning.
+#![tactic(auto)]
+
 pub mod check;
 pub mod kind;
 pub mod name;

@@ -1,4 +1,6 @@
 // A program on one page of text: the tree of its nodes, and its code.
+#![tactic(auto)]
+
 ghost use Rattle.std.specs.Prelude.{◌≡◌};
 ghost use Rattle.listing.specs.Listed.{tree_verdict, Listed};
 

@@ -1,4 +1,6 @@
 // The machine: an instruction a function, a step, and a run between a feed and a strip.
+#![tactic(auto)]
+
 mod control;
 mod environment;
 mod fresh;

@@ -1,4 +1,6 @@
 // A session as lines of text: what a line says, how it is written, and how it is read back.
+#![tactic(auto)]
+
 pub mod error;
 pub mod hex;
 pub mod line;

@@ -1,4 +1,6 @@
 // The ports at the edges of what they accept, and a strip in the hands of another crate.
+#![tactic(auto)]
+
 ghost use Rattle.std.specs.Prelude.{◌≡◌, [], ◌∷◌, length, if◌then◌else◌, nat_le};
 ghost use Rattle.ports.specs.Kept.{overlay};
 ghost use Rattle.ports.specs.Lines.{line_length, text_of};

@@ -1,4 +1,6 @@
 // The sequencer: it holds a program and a take of it, and answers calls.
+#![tactic(auto)]
+
 mod accept;
 mod archive;
 mod begin;

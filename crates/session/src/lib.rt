@@ -1,4 +1,6 @@
 // A session: a list of calls, carried out one after the other on a sequencer that is new.
+#![tactic(auto)]
+
 ghost use Rattle.std.specs.Prelude.{◌≡◌, MatchResult};
 ghost use Rattle.vocabulary.specs.World.{rules};
 ghost use Rattle.machine.specs.Seen.{between};

@@ -1,5 +1,7 @@
 // The archive sheet: a program's nodes and code as bytes. A sheet is written in two parts, header and nodes first and then the code,
 // and it is opened by reading its header and comparing its code.
+#![tactic(auto)]
+
 pub mod archive;
 pub mod half;
 pub mod layout;

@@ -1,4 +1,6 @@
 // The program `small`. Without arguments it shows one program from start to end; `small session` carries out a session.
+#![tactic(auto)]
+
 mod countdown;
 mod demonstration;
 mod listing;

@@ -1,4 +1,6 @@
 // The translation of a checked table: one walk that checks the names and writes the code.
+#![tactic(auto)]
+
 ghost use Rattle.std.specs.Prelude.{◌≡◌, suc, ◌<◌, ◌≤◌, [], length, Ok};
 ghost use Rattle.language.specs.Names.{same_role};
 ghost use Rattle.language.specs.Reading.{tree_of};

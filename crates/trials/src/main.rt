@@ -1,6 +1,8 @@
 // The program `trials`. It reads trials from standard input, carries each out by the calls of a new sequencer, and
 // prints a line for each answer. reference/make_trials.py writes its input and, by an implementation of its own, what has
 // to come out.
+#![tactic(auto)]
+
 mod bench;
 mod carry;
 mod plan;

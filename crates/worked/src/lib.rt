@@ -1,4 +1,6 @@
 // Worked examples: what the definitions give for small programs, from the bytes of a table on.
+#![tactic(auto)]
+
 ghost use Rattle.worked.specs.Examples.{Examples};
 ghost use Rattle.worked.specs.Refused.{RefusedExamples};
 
