@@ -15,7 +15,7 @@ pub loop-n-preserved : goal.loop-n-preserved
 loop-n-preserved c =
     let nodes = c.args.nodes.now in
     let n = c.loop-n.n in
-    passed (node_verdict nodes) (length nodes - n) (length nodes - (n + 1)) n (omega arith) (sym c.in-ok-check-node.ensures) c.loop-n.invariant
+    passed (node_verdict nodes) (length nodes - n) (length nodes - (n + 1)) n (omega arith) (sym c.in_ok-check_node.ensures) c.loop-n.invariant
 
 pub returns : goal.returns
 returns c = done (node_verdict c.args.nodes.now) (length c.args.nodes.now - c.loop-n.n) c.loop-n.n (omega arith) c.loop-n.invariant

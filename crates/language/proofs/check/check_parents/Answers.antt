@@ -22,7 +22,7 @@ tally-node-requires c = record {
 }
 
 pub loop-n-preserved : goal.loop-n-preserved
-loop-n-preserved c = (omega arith, λ k. omega (arith, c.tally-node.ensures k, c.loop-n.invariant.1 k, one_more_node c.args.nodes.now c.loop-n.n k))
+loop-n-preserved c = (omega arith, λ k. omega (arith, c.tally_node.ensures k, c.loop-n.invariant.1 k, one_more_node c.args.nodes.now c.loop-n.n k))
 
 pub returns-then-tallies-k-ne1 : goal.returns-then-tallies-k-ne1
 returns-then-tallies-k-ne1 c =

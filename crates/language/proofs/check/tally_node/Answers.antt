@@ -22,4 +22,4 @@ pub returns-in-None : goal.returns-in-None
 returns-in-None c = rw (none_held c.args.node (sym c.in-None.ensures)) (λ k. omega arith)
 
 pub returns-in-Some : goal.returns-in-Some
-returns-in-Some c = λ k. omega (arith, times-fields k c.args.node c.in-Some.fields (sym c.in-Some.ensures), c.tally-field.ensures k, c.tally-field-in-Some.ensures k, c.tally-field-in-Some-2.ensures k)
+returns-in-Some c = λ k. omega (arith, times-fields k c.args.node c.in-Some.fields (sym c.in-Some.ensures), c.tally_field.ensures k, c.tally_field-in-Some.ensures k, c.tally_field-in-Some-2.ensures k)

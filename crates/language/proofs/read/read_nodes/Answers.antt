@@ -8,4 +8,4 @@ loop-n-init c = filled_none c.args.table.now c.args.nodes.now
 pub loop-n-preserved : goal.loop-n-preserved
 loop-n-preserved c =
     let within : c.loop-n.n < length c.args.nodes.now = omega arith in
-    ap (set c.loop-n.nodes c.loop-n.n) c.node-at.ensures ∙ filled_more c.args.table.now c.args.nodes.now c.loop-n.nodes c.loop-n.n within c.loop-n.invariant
+    ap (set c.loop-n.nodes c.loop-n.n) c.node_at.ensures ∙ filled_more c.args.table.now c.args.nodes.now c.loop-n.nodes c.loop-n.n within c.loop-n.invariant

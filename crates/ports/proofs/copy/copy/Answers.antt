@@ -22,7 +22,7 @@ returns-in-Fault g c =
     let l = c.loop-done in
     let t = c.in-Some.ensures ∙ ap (λ x. x ∷ f.waiting c.take.new.self) c.in-Fault.is in
     record {
-      copied = sym (copied_fault s.price (c.args.limit - l.-done) (f.waiting l.feed) (s.held l.strip) (s.space l.strip) (omega arith) (f.waiting c.take.new.self) c.in-Fault.fault t) ∙ l.invariant.0;
+      copied = sym (copied_fault s.price (c.args.limit - l._done) (f.waiting l.feed) (s.held l.strip) (s.space l.strip) (omega arith) (f.waiting c.take.new.self) c.in-Fault.fault t) ∙ l.invariant.0;
       kept = l.invariant.1;
     }
 
@@ -36,7 +36,7 @@ returns-in-Full g c =
     let e : to_z w32 (of_z w32 z) ≡ z = to_z-of_z w32 z fit in
     let t = c.in-Some.ensures ∙ ap (λ x. x ∷ f.waiting c.take.new.self) (c.in-Reading.is ∙ sym (ap Reading e)) in
     record {
-      copied = sym (copied_full s.price (c.args.limit - l.-done) (f.waiting l.feed) (s.held l.strip) (s.space l.strip) (omega arith) (f.waiting c.take.new.self) (to_z w32 (of_z w32 z)) t (s.held c.put.new.self) (s.space c.put.new.self) c.in-Full.ensures.answer) ∙ l.invariant.0;
+      copied = sym (copied_full s.price (c.args.limit - l._done) (f.waiting l.feed) (s.held l.strip) (s.space l.strip) (omega arith) (f.waiting c.take.new.self) (to_z w32 (of_z w32 z)) t (s.held c.put.new.self) (s.space c.put.new.self) c.in-Full.ensures.answer) ∙ l.invariant.0;
       kept = s.goes _ _ _ l.invariant.1 c.in-Full.ensures.kept;
     }
 
@@ -49,9 +49,9 @@ loop-done-preserved g c =
     let fit : SFits w32 z = search rules in
     let e : to_z w32 (of_z w32 z) ≡ z = to_z-of_z w32 z fit in
     let t = c.in-Some.ensures ∙ ap (λ x. x ∷ f.waiting c.take.new.self) (c.in-Reading.is ∙ sym (ap Reading e)) in
-    let n : c.args.limit - (l.-done + 1) ≡ (c.args.limit - l.-done) - 1 = omega arith in (
+    let n : c.args.limit - (l._done + 1) ≡ (c.args.limit - l._done) - 1 = omega arith in (
       ap (λ k. copied s.price k (f.waiting c.take.new.self) (s.held c.put.new.self) (s.space c.put.new.self)) n
-          ∙ sym (copied_done s.price (c.args.limit - l.-done) (f.waiting l.feed) (s.held l.strip) (s.space l.strip) (omega arith) (f.waiting c.take.new.self) (to_z w32 (of_z w32 z)) t (s.held c.put.new.self) (s.space c.put.new.self) c.in-Done.ensures.answer)
+          ∙ sym (copied_done s.price (c.args.limit - l._done) (f.waiting l.feed) (s.held l.strip) (s.space l.strip) (omega arith) (f.waiting c.take.new.self) (to_z w32 (of_z w32 z)) t (s.held c.put.new.self) (s.space c.put.new.self) c.in-Done.ensures.answer)
           ∙ l.invariant.0,
       s.goes _ _ _ l.invariant.1 c.in-Done.ensures.kept,
     )

@@ -5,7 +5,7 @@ use Rattle.ports.proofs.Spelled.{ten_digits, line_plus, line_minus}
 use Rattle.ports.proofs.text.number_line.Goals as goal
 
 pub spell-at-requires : goal.spell-at-requires
-spell-at-requires c = let d = ten_digits c.unsigned-abs-size.result c.unsigned-abs-size.type-inv in record { room = search rules; long = omega arith }
+spell-at-requires c = let d = ten_digits c.unsigned_abs-size.result c.unsigned_abs-size.type-inv in record { room = search rules; long = omega arith }
 
 pub overflow-sub-buffer : goal.overflow-sub-buffer
 overflow-sub-buffer c = let d = ten_digits c.unsigned-abs-size.result c.unsigned-abs-size.type-inv in let s = c.spell-at.ensures.size in omega arith
@@ -16,16 +16,16 @@ overflow-sub-result c = let d = ten_digits c.unsigned-abs-size.result c.unsigned
 pub returns-then-number-lt0 : goal.returns-then-number-lt0
 returns-then-number-lt0 c =
     let f : SFits w32 c.args.number = c.ranges.number in
-    let d = ten_digits c.unsigned-abs-size.result c.unsigned-abs-size.type-inv in
+    let d = ten_digits c.unsigned_abs-size.result c.unsigned_abs-size.type-inv in
     let s = c.spell-at.ensures.size in
-    let e : c.unsigned-abs-size.result ≡ nat_abs c.args.number = simp to_z-of_z at c.unsigned-abs-size.ensures.value in
+    let e : c.unsigned_abs-size.result ≡ nat_abs c.args.number = simp to_z-of_z at c.unsigned_abs-size.ensures.value in
     let sign : lt_z c.args.number (pos 0) ≡ true = simp to_z-of_z at c.if-number-lt0.true in
-    record { text = line_minus c.args.number c.unsigned-abs-size.result c.spell-at.result c.args.buffer.now c.spell-at.new.buffer sign e c.requires (omega arith) (search rules) c.spell-at.ensures.text; before = omega arith }
+    record { text = line_minus c.args.number c.unsigned_abs-size.result c.spell-at.result c.args.buffer.now c.spell-at.new.buffer sign e c.requires (omega arith) (search rules) c.spell-at.ensures.text; before = omega arith }
 
 pub returns-else-number-lt0 : goal.returns-else-number-lt0
 returns-else-number-lt0 c =
     let f : SFits w32 c.args.number = c.ranges.number in
     let s = c.spell-at.ensures.size in
-    let e : c.unsigned-abs-size.result ≡ nat_abs c.args.number = simp to_z-of_z at c.unsigned-abs-size.ensures.value in
+    let e : c.unsigned_abs-size.result ≡ nat_abs c.args.number = simp to_z-of_z at c.unsigned_abs-size.ensures.value in
     let sign : lt_z c.args.number (pos 0) ≡ false = simp to_z-of_z at c.if-number-lt0.false in
-    record { text = line_plus c.args.number c.unsigned-abs-size.result c.spell-at.result c.args.buffer.now c.spell-at.new.buffer sign e c.requires c.spell-at.ensures.text; before = omega arith }
+    record { text = line_plus c.args.number c.unsigned_abs-size.result c.spell-at.result c.args.buffer.now c.spell-at.new.buffer sign e c.requires c.spell-at.ensures.text; before = omega arith }
