@@ -1,5 +1,6 @@
 -- What one more line makes of a text strip.
-use Rattle.std.proofs.Common.{◌≡◌, ℕ, ◌+◌, ◌-◌, ◌<◌, ◌≤◌, List, [], ◌∷◌, ◌++◌, length, take, drop, sym, refl, ap, ◌∙◌, append_assoc, arith, Bor}
+use Rattle.std.proofs.Common.{◌≡◌, ℕ, ◌+◌, ◌-◌, ◌<◌, ◌≤◌, List, [], ◌∷◌, ◌++◌, length, take, drop, sym, refl, ap, ◌∙◌, append_assoc, arith}
+use Rattle.std.specs.Borrow.{MutBor}
 use lib.Seq.{paste, take-paste}
 use Rattle.std.proofs.lemmas.List.{take_all, take_at, drop_at, length-take-le, length-append, length-drop}
 use Rattle.vocabulary.specs.declared.value.Plain.{Plain}
@@ -15,7 +16,7 @@ pub take-line : (memory line : List ℕ) (used n : ℕ) → used ≤ length memo
 take-line memory line used n h e =
     take-paste memory used line n h (omega arith) ∙ ap (λ t. take used memory ++ t) (take_all n line (omega arith))
 
-module _ (earlier later : Bor (List ℕ)) (used filled : ℕ) (v : Plain) (line : List ℕ) (is : line ≡ line_of v) (small : Small v)
+module _ (earlier later : MutBor (List ℕ)) (used filled : ℕ) (v : Plain) (line : List ℕ) (is : line ≡ line_of v) (small : Small v)
     (room : used ≤ length earlier.now) (whole : Whole (take used earlier.now)) (after : Whole (take filled later.now)) where
   module _ (fill : filled ≡ used + length line) (e : later.now ≡ take used earlier.now ++ (line ++ drop filled earlier.now)) where
     cut : length (take used earlier.now ++ line) ≡ filled

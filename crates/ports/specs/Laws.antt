@@ -1,7 +1,7 @@
 -- What the ghost members of each feed and strip have to show.
 use Rattle.std.specs.Prelude.{◌≡◌, ℕ, zero, suc, ◌+◌, ◌-◌, ◌≤◌, List, [], ◌∷◌, ◌++◌, length, take, drop, ℤ, refl}
 use Rattle.std.proofs.Common.{ap, sym, ◌∙◌, arith}
-use Rattle.std.specs.Borrow.{Bor}
+use Rattle.std.specs.Borrow.{MutBor}
 use Rattle.std.proofs.lemmas.List.{length-append, length-drop, length-take-le, drop-drop, drop_at, take-append-drop}
 use Rattle.vocabulary.specs.declared.value.Plain.{Plain}
 use Rattle.ports.specs.declared.trace.Record.{Record}
@@ -38,7 +38,7 @@ pub line_costs : (value : Plain) → 1 ≤ line_length value
 line_costs value = rw length-append (omega arith)
 
 -- nothing done keeps the memory
-pub kept-stays : {X : Type 0} (memory : Bor (List X)) (used : ℕ) (written : List X) → used ≤ length memory.now → written ≡ take used memory.now → Kept memory memory written written
+pub kept-stays : {X : Type 0} (memory : MutBor (List X)) (used : ℕ) (written : List X) → used ≤ length memory.now → written ≡ take used memory.now → Kept memory memory written written
 kept-stays memory used written h e =
     let n : length written ≡ used = ap length e ∙ length-take-le used memory.now h in
     record {
@@ -65,7 +65,7 @@ length-overlay written memory h =
     length-append written (drop (length written) memory) ∙ (omega arith)
 
 -- what is kept twice in a row is kept
-pub kept_goes : {X : Type 0} (first second third : Bor (List X)) (a b c : List X) → Kept first second a b → Kept second third b c → Kept first third a c
+pub kept_goes : {X : Type 0} (first second third : MutBor (List X)) (a b c : List X) → Kept first second a b → Kept second third b c → Kept first third a c
 kept_goes first second third a b c h k =
     let size = ap length h.memory ∙ length-overlay b first.now h.within in
     record {

@@ -13,7 +13,7 @@ loop-call-init g c = (
 
 pub loop-call-preserved : goal.loop-call-preserved
 loop-call-preserved g c = (
-  called _ _ _ _ _ _ _ _ _ _ _ _ c.loop-call-test.true c.act-answer.ensures.acted c.push-reserved.ensures.items c.loop-call.invariant.0,
+  called _ _ _ _ _ _ _ _ _ _ _ _ c.loop-call-test.true c.act-answer.ensures.acted c.push_reserved.ensures.items c.loop-call.invariant.0,
   omega arith,
   omega arith,
   g.S.Strip.goes _ _ _ c.loop-call.invariant.3 c.act-answer.ensures.kept,

@@ -22,19 +22,19 @@ command-requires c =
       names = omega (arith, c.new-scope.ensures.none);
     }
 
-pub returns-in-err-command : goal.returns-in-err-command
-returns-in-err-command c =
-    let p = err_from_is_err_and c.from-residual.result c.from-residual.ensures.1 in
-    program-refused _ c.new-scope.ensures.seen (p.1 ∙ ap Err p.2) c.in-err-command.ensures
+pub returns-in_err-command : goal.returns-in_err-command
+returns-in_err-command c =
+    let p = err_from_is_err_and c.from_residual.result c.from_residual.ensures.1 in
+    program-refused _ c.new-scope.ensures.seen (p.1 ∙ ap Err p.2) c.in_err-command.ensures
 
 pub emit-requires : goal.emit-requires
 emit-requires c =
     let s = root-size c.args.nodes.now c.requires.shape in
-    omega (arith, c.new-code.ensures.end, end_c c.in-ok-command.ensures)
+    omega (arith, c.new-code.ensures.end, end_c c.in_ok-command.ensures)
 
 pub returns : goal.returns
 returns c =
     let nodes = c.args.nodes.now in
     let i = is_from Command nodes (root_of nodes) (shaped nodes c.requires.shape).root in
     program_done _ c.new-scope.ensures.seen c.new-code.ensures.words c.new-code.ensures.end
-    (numbered_c nodes (sound nodes c.requires.shape) (root_of nodes) (omega arith) i) c.in-ok-command.ensures c.emit.ensures
+    (numbered_c nodes (sound nodes c.requires.shape) (root_of nodes) (omega arith) i) c.in_ok-command.ensures c.emit.ensures

@@ -11,11 +11,11 @@ pub returns : goal.returns
 returns g c =
     let loaded = c.in-Ok.ensures in
     let from = between g.F.Feed g.S.Strip c.args.feed.now c.args.strip.now in
-    let to = between g.F.Feed g.S.Strip c.grant-all.new.feed c.grant-all.new.strip in
+    let to = between g.F.Feed g.S.Strip c.grant_all.new.feed c.grant_all.new.strip in
     let granted =
-    subst (λ m. Granted (rules g.S.Strip.price) c.args.fuel m (model c.grant-all.new.sequencer) from to) loaded.1
-    c.grant-all.ensures.granted in
+    subst (λ m. Granted (rules g.S.Strip.price) c.args.fuel m (model c.grant_all.new.sequencer) from to) loaded.1
+    c.grant_all.ensures.granted in
     record {
-      performs = performs _ (omega arith) agreement _ (sym loaded.0) _ _ _ _ granted _ (omega (arith, c.if-fuel-gt-TAKE-FUEL.false)) c.report.ensures;
-      kept = c.grant-all.ensures.kept;
+      performs = performs _ (omega arith) agreement _ (sym loaded.0) _ _ _ _ granted _ (omega (arith, c.if-fuel-gt-TAKE_FUEL.false)) c.report.ensures;
+      kept = c.grant_all.ensures.kept;
     }

@@ -24,17 +24,17 @@ pub returns-in-1-to-7-4 : goal.returns-in-1-to-7-4
 returns-in-1-to-7-4 c =
     let f = formed_from (at c.args.nodes.now c.args.n) (sym c.if-not-keeps_tag.ensures) (sym c.if-not-keeps_fields.ensures) in
     let l = sym c.if-not-children_lower.ensures in
-    let s = sym c.if-not-children-fit.ensures in
+    let s = sym c.if-not-children_fit.ensures in
     rw (f, l, s) c.refuse-in-1-to-7-4.ensures
 
 pub returns-in-1-to-7-5 : goal.returns-in-1-to-7-5
 returns-in-1-to-7-5 c =
     let f = formed_from (at c.args.nodes.now c.args.n) (sym c.if-not-keeps_tag.ensures) (sym c.if-not-keeps_fields.ensures) in
     let l = sym c.if-not-children_lower.ensures in
-    let s = sym c.if-not-children-fit.ensures in
+    let s = sym c.if-not-children_fit.ensures in
     rw (f, l, s)
 
-pub returns-in-default : goal.returns-in-default
-returns-in-default c =
+pub returns-in_default : goal.returns-in_default
+returns-in_default c =
     let f = unknown (at c.args.nodes.now c.args.n) (λ i. let lo = i.0 in let hi = i.1 in grind arith) (λ i. let lo = i.0 in let hi = i.1 in grind arith) (λ i. let lo = i.0 in let hi = i.1 in grind arith) in
-    rw f c.refuse-in-default.ensures
+    rw f c.refuse-in_default.ensures

@@ -4,12 +4,12 @@ use Rattle.language.specs.Verdicts.{node_verdict}
 use Rattle.language.proofs.Upward.{passed, refused, done}
 use Rattle.language.proofs.check.check_nodes.Goals as goal
 
-pub returns-in-err-check-node : goal.returns-in-err-check-node
-returns-in-err-check-node c =
+pub returns-in_err-check_node : goal.returns-in_err-check_node
+returns-in_err-check_node c =
     let nodes = c.args.nodes.now in
     let n = c.loop-n.n in
-    let p = err_from_is_err_and c.from-residual.result c.from-residual.ensures.1 in
-    rw (p.1, p.2) (refused (node_verdict nodes) (length nodes - n) (length nodes - (n + 1)) n (omega arith) (sym c.in-err-check-node.ensures) c.loop-n.invariant)
+    let p = err_from_is_err_and c.from_residual.result c.from_residual.ensures.1 in
+    rw (p.1, p.2) (refused (node_verdict nodes) (length nodes - n) (length nodes - (n + 1)) n (omega arith) (sym c.in_err-check_node.ensures) c.loop-n.invariant)
 
 pub loop-n-preserved : goal.loop-n-preserved
 loop-n-preserved c =

@@ -15,8 +15,8 @@ pub loop-n-init : goal.loop-n-init
 unfolding children_in
 loop-n-init c = (refl, λ k. zeros 512 k)
 
-pub tally-node-requires : goal.tally-node-requires
-tally-node-requires c = record {
+pub tally_node-requires : goal.tally_node-requires
+tally_node-requires c = record {
   within = lower_more c.loop-n.n _ _ (omega (arith, c.loop-n.invariant.0)) (c.requires.below c.loop-n.n (omega arith));
   small = λ k. omega (arith, c.loop-n.invariant.1 k, few-children c.args.nodes.now c.loop-n.n k);
 }

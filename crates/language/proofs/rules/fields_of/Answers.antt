@@ -76,10 +76,10 @@ pub returns-in-10 : goal.returns-in-10
 unfolding fields_of
 returns-in-10 c = grind (arith, nat_tests)
 
-pub returns-in-default : goal.returns-in-default
+pub returns-in_default : goal.returns-in_default
 unfolding fields_of
-returns-in-default c = grind (arith, nat_tests)
+returns-in_default c = grind (arith, nat_tests)
 
-pub returns-in-default·2 : goal.returns-in-default·2
+pub returns-in_default-2 : goal.returns-in_default-2
 unfolding fields_of
-returns-in-default·2 c = grind (arith, nat_tests)
+returns-in_default-2 c = grind (arith, nat_tests)

@@ -59,8 +59,8 @@ returns-in-14 c = said _ _ _ (simp c.in-14.is) c.format-in-14.ensures.ok
 pub returns-in-20 : goal.returns-in-20
 unfolding words_of form_e
 returns-in-20 c =
-    let f : SFits w32 c.number-in-number.result = search rules in
-    said _ _ _ (simp c.in-20.is (ap (λ (z : ℤ). codes "number " ++ signed_decimal z) (sym (to_z-of_z w32 c.number-in-number.result f ∙ c.number-in-number.ensures)))) c.format-in-20.ensures.ok
+    let f : SFits w32 c.number_in-number.result = search rules in
+    said _ _ _ (simp c.in-20.is (ap (λ (z : ℤ). codes "number " ++ signed_decimal z) (sym (to_z-of_z w32 c.number_in-number.result f ∙ c.number_in-number.ensures)))) c.format-in-20.ensures.ok
 
 pub returns-in-21 : goal.returns-in-21
 unfolding words_of form_e
@@ -76,7 +76,7 @@ returns-in-23 c = said _ _ _ (simp c.in-23.is) c.format-in-23.ensures.ok
 
 pub returns-in-24 : goal.returns-in-24
 unfolding words_of form_e
-returns-in-24 c = said _ _ _ (simp (c.in-24.is, c.operation-of-operation.ensures)) c.format-in-24.ensures.ok
+returns-in-24 c = said _ _ _ (simp (c.in-24.is, c.operation_of-operation.ensures)) c.format-in-24.ensures.ok
 
 pub returns-in-25 : goal.returns-in-25
 unfolding words_of form_e

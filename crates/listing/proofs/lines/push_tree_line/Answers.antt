@@ -15,12 +15,12 @@ returns c =
     let nodes = c.args.nodes.now in
     let r = c.args.row in
     let s = string_bytes c.args.text.now in
-    let t1 = string_bytes c.push-number.new.text in
-    let t2 = string_bytes c.push-number-2.new.text in
-    let t3 = string_bytes c.push-spaces.new.text in
-    let e1 : t1 ≡ s ++ right 5 (decimal r.node) = c.in-ok-push-number.ensures ∙ ap (λ (n : ℕ). s ++ right 5 (decimal n)) c.from-2.ensures in
-    let e2 : t2 ≡ t1 ++ right 7 (decimal r.level) = c.in-ok-push-number-2.ensures ∙ ap (λ (n : ℕ). t1 ++ right 7 (decimal n)) c.from-3.ensures in
-    let e3 : t3 ≡ t2 ++ spaces (2 + 2 * min r.level 30) = c.in-ok-push-spaces.ensures ∙ ap (λ (n : ℕ). t2 ++ spaces (2 + 2 * n)) (c.min.ensures ∙ ap (λ (n : ℕ). min n 30) c.from-4.ensures) in
-    let e4 : string_bytes c.push-str.new.self ≡ t3 ++ words_of (at nodes r.node) =
-    c.in-ok-push-str.ensures.bytes ∙ ap (λ (l : List ℕ). t3 ++ l) (c.as-str.ensures.value ∙ c.in-ok-words.ensures ∙ ap (λ (n : ℕ). words_of (at nodes n)) c.from.ensures) in
-    simp (c.in-ok-push-str-2.ensures.bytes, e4, e3, e2, e1, append_assoc)
+    let t1 = string_bytes c.push_number.new.text in
+    let t2 = string_bytes c.push_number-2.new.text in
+    let t3 = string_bytes c.push_spaces.new.text in
+    let e1 : t1 ≡ s ++ right 5 (decimal r.node) = c.in_ok-push_number.ensures ∙ ap (λ (n : ℕ). s ++ right 5 (decimal n)) c.from-2.ensures in
+    let e2 : t2 ≡ t1 ++ right 7 (decimal r.level) = c.in_ok-push_number-2.ensures ∙ ap (λ (n : ℕ). t1 ++ right 7 (decimal n)) c.from-3.ensures in
+    let e3 : t3 ≡ t2 ++ spaces (2 + 2 * min r.level 30) = c.in_ok-push_spaces.ensures ∙ ap (λ (n : ℕ). t2 ++ spaces (2 + 2 * n)) (c.min.ensures ∙ ap (λ (n : ℕ). min n 30) c.from-4.ensures) in
+    let e4 : string_bytes c.push_str.new.self ≡ t3 ++ words_of (at nodes r.node) =
+    c.in_ok-push_str.ensures.bytes ∙ ap (λ (l : List ℕ). t3 ++ l) (c.as_str.ensures.value ∙ c.in_ok-words.ensures ∙ ap (λ (n : ℕ). words_of (at nodes n)) c.from.ensures) in
+    simp (c.in_ok-push_str-2.ensures.bytes, e4, e3, e2, e1, append_assoc)

@@ -6,5 +6,5 @@ use Rattle.listing.proofs.pad.push_spaces.Goals as goal
 pub loop-preserved : goal.loop-preserved
 unfolding encode
 loop-preserved c =
-    let e : string_bytes c.push.new.self ≡ string_bytes c.loop.text ++ (32 ∷ []) = c.in-ok-push.ensures.bytes in
+    let e : string_bytes c.push.new.self ≡ string_bytes c.loop.text ++ (32 ∷ []) = c.in_ok-push.ensures.bytes in
     simp (e, c.loop.invariant, append_assoc, replicate-append-replicate {A = ℕ} c.loop.counter 1 32)

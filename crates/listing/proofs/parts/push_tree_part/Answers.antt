@@ -11,9 +11,9 @@ unfolding tree_part
 returns c =
     let nodes = c.args.nodes.now in
     let s = string_bytes c.args.text.now in
-    let t = string_bytes c.push-str.new.self in
+    let t = string_bytes c.push_str.new.self in
     let e1 : t ≡ s ++ tree_heading (length nodes) =
-    c.in-ok-push-str.ensures.bytes
-    ∙ ap (λ (l : List ℕ). s ++ l) (c.as-str.ensures.value ∙ c.in-ok-heading.ensures.ok ∙ heading_is (codes "Tree: ") (decimal (length nodes)) (codes " nodes") (codes " node  level  form")) in
-    let e2 : string_bytes c.push-tree.new.text ≡ t ++ flat_map (tree_line nodes) (rows_of nodes) = c.in-ok-push-tree.ensures in
+    c.in_ok-push_str.ensures.bytes
+    ∙ ap (λ (l : List ℕ). s ++ l) (c.as_str.ensures.value ∙ c.in_ok-heading.ensures.ok ∙ heading_is (codes "Tree: ") (decimal (length nodes)) (codes " nodes") (codes " node  level  form")) in
+    let e2 : string_bytes c.push_tree.new.text ≡ t ++ flat_map (tree_line nodes) (rows_of nodes) = c.in_ok-push_tree.ensures in
     then_more s _ _ e1 e2

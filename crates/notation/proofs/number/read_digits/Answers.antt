@@ -4,9 +4,9 @@ use Rattle.notation.proofs.Figures.{begun, so_far_more, so_far_all, digit_bad, t
 use Rattle.notation.proofs.number.read_digits.Goals as goal
 use Rattle.notation.proofs.number.read_digits.Goals.{then-digit-most-via-then-digit-most, then-digit-most-via-else-digit-most+then-number-most}
 
-pub returns-then-is-empty : goal.returns-then-is-empty
-returns-then-is-empty c =
-    λ n h u. omega (arith, u.0.0, length-drop c.args.from c.args.word.now, eqb-true (length c.args.word.now) 0 (sym c.if-is-empty.ensures))
+pub returns-then-is_empty : goal.returns-then-is_empty
+returns-then-is_empty c =
+    λ n h u. omega (arith, u.0.0, length-drop c.args.from c.args.word.now, eqb-true (length c.args.word.now) 0 (sym c.if-is_empty.ensures))
 
 pub returns-then-from-word : goal.returns-then-from-word
 returns-then-from-word c = λ n h u. omega (arith, u.0.0, length-drop c.args.from c.args.word.now)

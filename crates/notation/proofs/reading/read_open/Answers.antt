@@ -4,10 +4,10 @@ use Rattle.notation.specs.Hex.{hex_text}
 use Rattle.notation.proofs.Behind.{open_bad}
 use Rattle.notation.proofs.reading.read_open.Goals as goal
 
-pub returns-in-err-sheet : goal.returns-in-err-sheet
-returns-in-err-sheet c =
-    let p = err_from_is_err_and c.from-residual.result c.from-residual.ensures.1 in
-    rw p.1 (λ other. open_bad c.args.rest.now (c.in-err-sheet.ensures (rw p.2 at other)))
+pub returns-in_err-sheet : goal.returns-in_err-sheet
+returns-in_err-sheet c =
+    let p = err_from_is_err_and c.from_residual.result c.from_residual.ensures.1 in
+    rw p.1 (λ other. open_bad c.args.rest.now (c.in_err-sheet.ensures (rw p.2 at other)))
 
 pub returns : goal.returns
-returns c = (hex_text (vec_items c.in-ok-sheet.sheet) ∷ [], c.in-ok-sheet.ensures, refl)
+returns c = (hex_text (vec_items c.in_ok-sheet.sheet) ∷ [], c.in_ok-sheet.ensures, refl)

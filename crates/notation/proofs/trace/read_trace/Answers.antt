@@ -12,29 +12,29 @@ use Rattle.notation.proofs.trace.read_trace.Goals as goal
 pub loop-word-init : goal.loop-word-init
 loop-word-init c = subst (λ rs. Listed c.args.line.now c.args.line.now (items_of rs)) (sym c.new-records.ensures.items) (listed_none c.args.line.now)
 
-pub returns-then-is-empty : goal.returns-then-is-empty
-returns-then-is-empty c =
-    listed_all c.args.line.now c.loop-word.left.now _ c.loop-word.invariant (word_none c.next-word.result.0.now _ c.next-word.ensures.first c.if-is-empty.ensures)
+pub returns-then-is_empty : goal.returns-then-is_empty
+returns-then-is_empty c =
+    listed_all c.args.line.now c.loop-word.left.now _ c.loop-word.invariant (word_none c.next_word.result.0.now _ c.next_word.ensures.first c.if-is_empty.ensures)
 
-pub returns-in-err-record : goal.returns-in-err-record
-returns-in-err-record c =
-    let p = err_from_is_err_and c.from-residual.result c.from-residual.ensures.1 in
+pub returns-in_err-record : goal.returns-in_err-record
+returns-in_err-record c =
+    let p = err_from_is_err_and c.from_residual.result c.from_residual.ensures.1 in
     let left = c.loop-word.left.now in
-    let first = c.next-word.ensures.first in
-    rw p.1 (λ _. listed_bad c.args.line.now left _ c.loop-word.invariant (word_some c.next-word.result.0.now (word left) first c.if-is-empty.ensures) (λ x r i. c.in-err-record.ensures x r (subst (λ w. IsItem w x) (sym first) i)))
+    let first = c.next_word.ensures.first in
+    rw p.1 (λ _. listed_bad c.args.line.now left _ c.loop-word.invariant (word_some c.next_word.result.0.now (word left) first c.if-is_empty.ensures) (λ x r i. c.in_err-record.ensures x r (subst (λ w. IsItem w x) (sym first) i)))
 
 pub loop-word-smaller : goal.loop-word-smaller
 loop-word-smaller c =
     let left = c.loop-word.left.now in
-    subst (λ t. length t < length left) (sym c.next-word.ensures.second) (behind_shorter left (word_some c.next-word.result.0.now (word left) c.next-word.ensures.first c.if-is-empty.ensures))
+    subst (λ t. length t < length left) (sym c.next_word.ensures.second) (behind_shorter left (word_some c.next_word.result.0.now (word left) c.next_word.ensures.first c.if-is_empty.ensures))
 
 pub loop-word-preserved : goal.loop-word-preserved
 loop-word-preserved c =
     let line = c.args.line.now in
     let left = c.loop-word.left.now in
-    let x = c.in-ok-record.record in
+    let x = c.in_ok-record.record in
     let records = vec_items c.loop-word.records in
-    let first = c.next-word.ensures.first in
-    let more = listed_more line left (items_of records) c.loop-word.invariant (word_some c.next-word.result.0.now (word left) first c.if-is-empty.ensures) (item_of x) (subst (λ w. IsItem w (item_of x)) first c.in-ok-record.ensures) in
-    let grown = pushed (x ∷ []) refl c.in-ok-push.was c.push.ensures.items in
-    subst (λ t. Listed line t (items_of (vec_items c.push.new.self))) (sym c.next-word.ensures.second) (subst (Listed line (behind left)) (sym (map_push item_of records x) ∙ ap items_of (sym grown)) more)
+    let first = c.next_word.ensures.first in
+    let more = listed_more line left (items_of records) c.loop-word.invariant (word_some c.next_word.result.0.now (word left) first c.if-is_empty.ensures) (item_of x) (subst (λ w. IsItem w (item_of x)) first c.in_ok-record.ensures) in
+    let grown = pushed (x ∷ []) refl c.in_ok-push.was c.push.ensures.items in
+    subst (λ t. Listed line t (items_of (vec_items c.push.new.self))) (sym c.next_word.ensures.second) (subst (Listed line (behind left)) (sym (map_push item_of records x) ∙ ap items_of (sym grown)) more)

@@ -3,11 +3,11 @@ use Rattle.notation.specs.Words.{trimmed}
 use Rattle.notation.proofs.Cutting.{trims_stop, trims_more, trims_all}
 use Rattle.notation.proofs.word.blanks.Goals as goal
 
-pub returns-then-not-is-blank : goal.returns-then-not-is-blank
-returns-then-not-is-blank c = record { within = omega arith; past = trims_stop c.args.line.now c.loop-n.n c.loop-n-test.true (sym c.if-not-is-blank.ensures) c.loop-n.invariant }
+pub returns-then-not-is_blank : goal.returns-then-not-is_blank
+returns-then-not-is_blank c = record { within = omega arith; past = trims_stop c.args.line.now c.loop-n.n c.loop-n-test.true (sym c.if-not-is_blank.ensures) c.loop-n.invariant }
 
 pub loop-n-preserved : goal.loop-n-preserved
-loop-n-preserved c = trims_more c.args.line.now c.loop-n.n c.loop-n-test.true (sym c.if-not-is-blank.ensures) c.loop-n.invariant
+loop-n-preserved c = trims_more c.args.line.now c.loop-n.n c.loop-n-test.true (sym c.if-not-is_blank.ensures) c.loop-n.invariant
 
 pub returns : goal.returns
 returns c =

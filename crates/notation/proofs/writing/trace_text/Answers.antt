@@ -11,10 +11,10 @@ pub loop-record-preserved : goal.loop-record-preserved
 loop-record-preserved c =
     let records = c.args.records.now in
     let i = c.loop-record.record-index in
-    let word = c.in-ok-word.ensures in
-    let spaced = pushed (32 ∷ []) c.loop-record.invariant c.in-ok-push-str.was c.push-str.ensures.bytes in
-    pushed c.as-str.result.now spaced c.in-ok-push-str-2.was c.push-str-in-loop-record.ensures.bytes
-    ∙ ap (λ w. ((codes "feed trace" ++ flat_map (λ v. 32 ∷ v) (map item_word (items_of (take i records)))) ++ (32 ∷ [])) ++ w) (c.as-str.ensures.value ∙ word)
+    let word = c.in_ok-word.ensures in
+    let spaced = pushed (32 ∷ []) c.loop-record.invariant c.in_ok-push_str.was c.push_str.ensures.bytes in
+    pushed c.as_str.result.now spaced c.in_ok-push_str-2.was c.push_str-in-loop-record.ensures.bytes
+    ∙ ap (λ w. ((codes "feed trace" ++ flat_map (λ v. 32 ∷ v) (map item_word (items_of (take i records)))) ++ (32 ∷ [])) ++ w) (c.as_str.ensures.value ∙ word)
     ∙ word_more (codes "feed trace") item_word item_of records i record { code = 0; reading = pos 0 } c.loop-record-test.true
 
 pub returns : goal.returns

@@ -5,13 +5,13 @@ use Rattle.ports.specs.Copies.{copied}
 use Rattle.ports.proofs.Copying.{copied_empty, copied_fault, copied_full, copied_done}
 use Rattle.ports.proofs.copy.copy.Goals as goal
 
-pub returns-in-default : goal.returns-in-default
-returns-in-default g c =
+pub returns-in_default : goal.returns-in_default
+returns-in_default g c =
     let f = g.F.Feed in
     let s = g.S.Strip in
     let l = c.loop-done in
     record {
-      copied = sym (copied_empty s.price (c.args.limit - l.-done) (f.waiting l.feed) (s.held l.strip) (s.space l.strip) (omega arith) (f.waiting c.take.new.self) c.in-default.ensures) ∙ l.invariant.0;
+      copied = sym (copied_empty s.price (c.args.limit - l._done) (f.waiting l.feed) (s.held l.strip) (s.space l.strip) (omega arith) (f.waiting c.take.new.self) c.in_default.ensures) ∙ l.invariant.0;
       kept = l.invariant.1;
     }
 

@@ -3,8 +3,8 @@ use Rattle.std.proofs.lemmas.Fmt.{decimal_digit}
 use Rattle.ports.proofs.Spelled.{digits_length, digits_some, digits_less, digits_one, digits_more}
 use Rattle.ports.proofs.text.+spell.Goals as goal
 
-pub overflow-sub-at : goal.overflow-sub-at
-overflow-sub-at t c = let s = digits_some c.args.number (search rules) in omega arith
+pub overflow_sub-at : goal.overflow_sub-at
+overflow_sub-at t c = let s = digits_some c.args.number (search rules) in omega arith
 
 pub bounds-buffer-at : goal.bounds-buffer-at
 bounds-buffer-at t c = let s = digits_some c.args.number (search rules) in omega arith

@@ -9,5 +9,5 @@ returns c =
     let M = c.args.memory.now in
     let n = length c.args.code.now in
     let a = c.args.half.code_at in
-    completed M (code_bytes c.args.code.now) (header c.args.half.nodes n a (a + 8 * n)) c.write-header.new.memory c.write-entries.new.tail a (8 * n) c.requires.start c.requires.room c.write-entries.ensures
-    (c.write-header.ensures ∙ ap (λ (h : List ℕ). h ++ drop 16 (put_mid a (length M - a) M c.write-entries.new.tail)) c.header-bytes.ensures)
+    completed M (code_bytes c.args.code.now) (header c.args.half.nodes n a (a + 8 * n)) c.write_header.new.memory c.write_entries.new.tail a (8 * n) c.requires.start c.requires.room c.write_entries.ensures
+    (c.write_header.ensures ∙ ap (λ (h : List ℕ). h ++ drop 16 (put_mid a (length M - a) M c.write_entries.new.tail)) c.header_bytes.ensures)

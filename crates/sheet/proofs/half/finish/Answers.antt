@@ -10,6 +10,6 @@ returns c =
     let M = c.args.memory.now in
     let p = archive c.args.nodes.now c.args.code.now in
     let room : leb (size_of p) (length M) ≡ true = le-leb (size_of p) (length M) (omega arith) in
-    let half : is_half p c.args.half M ≡ true = sym c.if-not-is-half.ensures in
+    let half : is_half p c.args.half M ≡ true = sym c.if-not-is_half.ensures in
     let m = finished p c.args.half M c.complete.new.memory (half_means p c.args.half M (omega arith) half) c.complete.ensures in
     record { answer = rw (room, half); memory = rw (room, half) m }

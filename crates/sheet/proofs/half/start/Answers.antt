@@ -10,6 +10,6 @@ returns c =
     let N = c.args.nodes.now in
     let p = archive N c.args.code.now in
     let room : leb (size_of p) (length M) ≡ true = le-leb (size_of p) (length M) (omega arith) in
-    let m = started N M (header (length N) 0 0 0) c.write-header.new.memory c.write-entries.new.tail refl (omega arith)
-    (c.write-header.ensures ∙ ap (λ (h : List ℕ). h ++ drop 16 M) c.header-bytes.ensures) c.write-entries.ensures in
+    let m = started N M (header (length N) 0 0 0) c.write_header.new.memory c.write_entries.new.tail refl (omega arith)
+    (c.write_header.ensures ∙ ap (λ (h : List ℕ). h ++ drop 16 M) c.header_bytes.ensures) c.write_entries.ensures in
     record { answer = rw room; memory = rw room m }

@@ -10,14 +10,14 @@ returns-then-part-ne0 g c =
 pub loop-i-preserved : goal.loop-i-preserved
 loop-i-preserved g c =
     let m = g.T.Entry in
-    match-step m.encoding m.eight c.args.part.now c.to-bytes-bytes.result c.args.entries.now c.loop-i.i c.index-entries-i.result c.loop-i-test.true
-    (c.to-bytes-bytes.ensures ∙ ap m.encoding c.index-entries-i.is) c.if-not-same-bytes.ensures c.loop-i.invariant
+    match-step m.encoding m.eight c.args.part.now c.to_bytes-bytes.result c.args.entries.now c.loop-i.i c.index-entries-i.result c.loop-i-test.true
+    (c.to_bytes-bytes.ensures ∙ ap m.encoding c.index-entries-i.is) c.if-not-same_bytes.ensures c.loop-i.invariant
 
-pub returns-then-not-same-bytes : goal.returns-then-not-same-bytes
-returns-then-not-same-bytes g c =
+pub returns-then-not-same_bytes : goal.returns-then-not-same_bytes
+returns-then-not-same_bytes g c =
     let m = g.T.Entry in
-    match_not m.encoding m.eight c.args.part.now c.to-bytes-bytes.result c.args.entries.now c.loop-i.i c.index-entries-i.result c.loop-i-test.true
-    (c.to-bytes-bytes.ensures ∙ ap m.encoding c.index-entries-i.is) c.if-not-same-bytes.ensures
+    match_not m.encoding m.eight c.args.part.now c.to_bytes-bytes.result c.args.entries.now c.loop-i.i c.index-entries-i.result c.loop-i-test.true
+    (c.to_bytes-bytes.ensures ∙ ap m.encoding c.index-entries-i.is) c.if-not-same_bytes.ensures
 
 pub returns : goal.returns
 returns g c =

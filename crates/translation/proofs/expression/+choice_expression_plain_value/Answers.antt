@@ -9,12 +9,12 @@ use Rattle.translation.proofs.Forms.{at_20, at_21, at_22, at_23, at_24, at_25, a
 use Rattle.translation.proofs.Writing.{ahead}
 use Rattle.translation.proofs.expression.+choice_expression_plain_value.Goals as goal
 
-pub plain-value-emit-requires : goal.plain-value-emit-requires
-plain-value-emit-requires t c =
-    omega (arith, c.requires.room, end_e c.in-ok-expression.ensures)
+pub plain_value-emit-requires : goal.plain_value-emit-requires
+plain_value-emit-requires t c =
+    omega (arith, c.requires.room, end_e c.in_ok-expression.ensures)
 
-pub plain-value-returns : goal.plain-value-returns
-plain-value-returns t c = plain_done (numbered_e _ c.requires.sound _ c.requires.here c.requires.sort) c.in-ok-expression.ensures c.emit.ensures
+pub plain_value-returns : goal.plain_value-returns
+plain_value-returns t c = plain_done (numbered_e _ c.requires.sound _ c.requires.here c.requires.sort) c.in_ok-expression.ensures c.emit.ensures
 
 pub expression-emit-requires : goal.expression-emit-requires
 expression-emit-requires t c = omega (arith, c.requires.room, some_e (tree_e c.args.nodes.now c.args.n))
@@ -46,144 +46,144 @@ expression-returns-in-22 t c =
     let k = at_22 c.requires c.from.ensures c.in-22.is in
     same_e k.0 (record { answer = refl; wrote = c.emit-in-22.ensures })
 
-pub expression-returns-in-err-newer : goal.expression-returns-in-err-newer
+pub expression-returns-in_err-newer : goal.expression-returns-in_err-newer
 unfolding names_e
-expression-returns-in-err-newer t c =
+expression-returns-in_err-newer t c =
     let k = at_23 c.requires c.from.ensures c.in-23.is in
-    let p = err_from_is_err_and c.from-residual.result c.from-residual.ensures.1 in
-    refused_e (p.1 ∙ ap Err p.2) k.0 (sym c.in-err-newer.ensures)
+    let p = err_from_is_err_and c.from_residual.result c.from_residual.ensures.1 in
+    refused_e (p.1 ∙ ap Err p.2) k.0 (sym c.in_err-newer.ensures)
 
-pub expression-returns-in-ok-newer : goal.expression-returns-in-ok-newer
-expression-returns-in-ok-newer t c =
+pub expression-returns-in_ok-newer : goal.expression-returns-in_ok-newer
+expression-returns-in_ok-newer t c =
     let k = at_23 c.requires c.from.ensures c.in-23.is in
-    same_e k.0 (name_done _ _ _ c.in-ok-newer.ensures c.emit-in-23.ensures)
+    same_e k.0 (name_done _ _ _ c.in_ok-newer.ensures c.emit-in-23.ensures)
 
-pub expression-plain-value-requires : goal.expression-plain-value-requires
-expression-plain-value-requires t c =
+pub expression-plain_value-requires : goal.expression-plain_value-requires
+expression-plain_value-requires t c =
     let k = at_24 c.requires c.from.ensures c.in-24.is in
     (omega (arith, k.1.0.0), ready_e c.requires.sound c.requires.here k.1.0 (omega (arith, c.requires.room, ap size_e k.0)))
 
-pub expression-returns-in-err-plain-value : goal.expression-returns-in-err-plain-value
+pub expression-returns-in_err-plain_value : goal.expression-returns-in_err-plain_value
 unfolding names_e
-expression-returns-in-err-plain-value t c =
+expression-returns-in_err-plain_value t c =
     let k = at_24 c.requires c.from.ensures c.in-24.is in
-    let p = err_from_is_err_and c.from-residual-in-err-plain-value.result c.from-residual-in-err-plain-value.ensures.1 in
-    refused_e (p.1 ∙ ap Err p.2) k.0 (first _ c.in-err-plain-value.ensures.answer)
+    let p = err_from_is_err_and c.from_residual-in_err-plain_value.result c.from_residual-in_err-plain_value.ensures.1 in
+    refused_e (p.1 ∙ ap Err p.2) k.0 (first _ c.in_err-plain_value.ensures.answer)
 
-pub expression-plain-value-requires-in-24 : goal.expression-plain-value-requires-in-24
-expression-plain-value-requires-in-24 t c =
+pub expression-plain_value-requires-in-24 : goal.expression-plain_value-requires-in-24
+expression-plain_value-requires-in-24 t c =
     let k = at_24 c.requires c.from.ensures c.in-24.is in
-    let v = end_plain c.in-ok-plain-value.ensures in
+    let v = end_plain c.in_ok-plain_value.ensures in
     (omega (arith, k.1.1.0), ready_e c.requires.sound c.requires.here k.1.1 (omega (arith, c.requires.room, ap size_e k.0)))
 
-pub expression-returns-in-err-plain-value-2 : goal.expression-returns-in-err-plain-value-2
+pub expression-returns-in_err-plain_value-2 : goal.expression-returns-in_err-plain_value-2
 unfolding names_e
-expression-returns-in-err-plain-value-2 t c =
+expression-returns-in_err-plain_value-2 t c =
     let k = at_24 c.requires c.from.ensures c.in-24.is in
-    let p = err_from_is_err_and c.from-residual-in-err-plain-value-2.result c.from-residual-in-err-plain-value-2.ensures.1 in
-    refused_e (p.1 ∙ ap Err p.2) k.0 (second c.in-ok-plain-value.ensures.answer c.in-err-plain-value-2.ensures.answer)
+    let p = err_from_is_err_and c.from_residual-in_err-plain_value-2.result c.from_residual-in_err-plain_value-2.ensures.1 in
+    refused_e (p.1 ∙ ap Err p.2) k.0 (second c.in_ok-plain_value.ensures.answer c.in_err-plain_value-2.ensures.answer)
 
 pub expression-emit-requires-in-24 : goal.expression-emit-requires-in-24
 expression-emit-requires-in-24 t c =
     let k = at_24 c.requires c.from.ensures c.in-24.is in
-    let v = end_plain c.in-ok-plain-value.ensures in
-    let w = end_plain c.in-ok-plain-value-2.ensures in
+    let v = end_plain c.in_ok-plain_value.ensures in
+    let w = end_plain c.in_ok-plain_value-2.ensures in
     omega (arith, c.requires.room, ap size_e k.0)
 
-pub expression-returns-in-ok-plain-value-2 : goal.expression-returns-in-ok-plain-value-2
-expression-returns-in-ok-plain-value-2 t c =
+pub expression-returns-in_ok-plain_value-2 : goal.expression-returns-in_ok-plain_value-2
+expression-returns-in_ok-plain_value-2 t c =
     let k = at_24 c.requires c.from.ensures c.in-24.is in
-    same_e k.0 (operation_done _ _ _ _ _ c.operation.ensures c.in-ok-plain-value.ensures c.in-ok-plain-value-2.ensures c.emit-in-24.ensures)
+    same_e k.0 (operation_done _ _ _ _ _ c.operation.ensures c.in_ok-plain_value.ensures c.in_ok-plain_value-2.ensures c.emit-in-24.ensures)
 
-pub expression-returns-in-err-newer-2 : goal.expression-returns-in-err-newer-2
+pub expression-returns-in_err-newer-2 : goal.expression-returns-in_err-newer-2
 unfolding names_e
-expression-returns-in-err-newer-2 t c =
+expression-returns-in_err-newer-2 t c =
     let k = at_25 c.requires c.from.ensures c.in-25.is in
-    let p = err_from_is_err_and c.from-residual-in-err-newer-2.result c.from-residual-in-err-newer-2.ensures.1 in
-    refused_e (p.1 ∙ ap Err p.2) k.0 (first _ (sym c.in-err-newer-2.ensures))
+    let p = err_from_is_err_and c.from_residual-in_err-newer-2.result c.from_residual-in_err-newer-2.ensures.1 in
+    refused_e (p.1 ∙ ap Err p.2) k.0 (first _ (sym c.in_err-newer-2.ensures))
 
 pub expression-expression-requires : goal.expression-expression-requires
 expression-expression-requires t c =
     let k = at_25 c.requires c.from.ensures c.in-25.is in
     (omega (arith, k.1.0), ready_e c.requires.sound c.requires.here k.1 (omega (arith, c.requires.room, ap size_e k.0)))
 
-pub expression-returns-in-err-expression : goal.expression-returns-in-err-expression
+pub expression-returns-in_err-expression : goal.expression-returns-in_err-expression
 unfolding names_e
-expression-returns-in-err-expression t c =
+expression-returns-in_err-expression t c =
     let k = at_25 c.requires c.from.ensures c.in-25.is in
-    let p = err_from_is_err_and c.from-residual-in-err-expression.result c.from-residual-in-err-expression.ensures.1 in
-    refused_e (p.1 ∙ ap Err p.2) k.0 (second (sym c.in-ok-newer-2.ensures.0) c.in-err-expression.ensures.answer)
+    let p = err_from_is_err_and c.from_residual-in_err-expression.result c.from_residual-in_err-expression.ensures.1 in
+    refused_e (p.1 ∙ ap Err p.2) k.0 (second (sym c.in_ok-newer-2.ensures.0) c.in_err-expression.ensures.answer)
 
 pub expression-emit-requires-in-25 : goal.expression-emit-requires-in-25
 expression-emit-requires-in-25 t c =
     let k = at_25 c.requires c.from.ensures c.in-25.is in
-    let v = end_e c.in-ok-expression.ensures in
+    let v = end_e c.in_ok-expression.ensures in
     omega (arith, c.requires.room, ap size_e k.0)
 
-pub expression-returns-in-ok-expression : goal.expression-returns-in-ok-expression
-expression-returns-in-ok-expression t c =
+pub expression-returns-in_ok-expression : goal.expression-returns-in_ok-expression
+expression-returns-in_ok-expression t c =
     let k = at_25 c.requires c.from.ensures c.in-25.is in
-    same_e k.0 (call_done _ _ _ _ c.in-ok-newer-2.ensures c.in-ok-expression.ensures c.emit-in-25.ensures)
+    same_e k.0 (call_done _ _ _ _ c.in_ok-newer-2.ensures c.in_ok-expression.ensures c.emit-in-25.ensures)
 
-pub choice-plain-value-requires : goal.choice-plain-value-requires
-choice-plain-value-requires t c =
+pub choice-plain_value-requires : goal.choice-plain_value-requires
+choice-plain_value-requires t c =
     let k = at_26 c.requires.ready c.from.ensures c.requires.kind in
     (omega (arith, k.1.0.0), ready_e c.requires.ready.sound c.requires.ready.here k.1.0 (omega (arith, c.requires.ready.room, ap size_e k.0)))
 
-pub choice-returns-in-err-plain-value : goal.choice-returns-in-err-plain-value
+pub choice-returns-in_err-plain_value : goal.choice-returns-in_err-plain_value
 unfolding names_e
-choice-returns-in-err-plain-value t c =
+choice-returns-in_err-plain_value t c =
     let k = at_26 c.requires.ready c.from.ensures c.requires.kind in
-    let p = err_from_is_err_and c.from-residual.result c.from-residual.ensures.1 in
-    refused_e (p.1 ∙ ap Err p.2) k.0 (first _ c.in-err-plain-value.ensures.answer)
+    let p = err_from_is_err_and c.from_residual.result c.from_residual.ensures.1 in
+    refused_e (p.1 ∙ ap Err p.2) k.0 (first _ c.in_err-plain_value.ensures.answer)
 
-pub choice-returns-in-err-expression : goal.choice-returns-in-err-expression
+pub choice-returns-in_err-expression : goal.choice-returns-in_err-expression
 unfolding names_e
-choice-returns-in-err-expression t c =
+choice-returns-in_err-expression t c =
     let k = at_26 c.requires.ready c.from.ensures c.requires.kind in
-    let p = err_from_is_err_and c.from-residual-in-err-expression.result c.from-residual-in-err-expression.ensures.1 in
-    refused_e (p.1 ∙ ap Err p.2) k.0 (second c.in-ok-plain-value.ensures.answer (first _ c.in-err-expression.ensures.answer))
+    let p = err_from_is_err_and c.from_residual-in_err-expression.result c.from_residual-in_err-expression.ensures.1 in
+    refused_e (p.1 ∙ ap Err p.2) k.0 (second c.in_ok-plain_value.ensures.answer (first _ c.in_err-expression.ensures.answer))
 
-pub choice-returns-in-err-expression-2 : goal.choice-returns-in-err-expression-2
+pub choice-returns-in_err-expression-2 : goal.choice-returns-in_err-expression-2
 unfolding names_e
-choice-returns-in-err-expression-2 t c =
+choice-returns-in_err-expression-2 t c =
     let k = at_26 c.requires.ready c.from.ensures c.requires.kind in
-    let p = err_from_is_err_and c.from-residual-in-err-expression-2.result c.from-residual-in-err-expression-2.ensures.1 in
-    refused_e (p.1 ∙ ap Err p.2) k.0 (second c.in-ok-plain-value.ensures.answer (second c.in-ok-expression.ensures.answer c.in-err-expression-2.ensures.answer))
+    let p = err_from_is_err_and c.from_residual-in_err-expression-2.result c.from_residual-in_err-expression-2.ensures.1 in
+    refused_e (p.1 ∙ ap Err p.2) k.0 (second c.in_ok-plain_value.ensures.answer (second c.in_ok-expression.ensures.answer c.in_err-expression-2.ensures.answer))
 
 pub choice-emit-requires : goal.choice-emit-requires
 choice-emit-requires t c =
     let k = at_26 c.requires.ready c.from.ensures c.requires.kind in
-    let v = end_plain c.in-ok-plain-value.ensures in
+    let v = end_plain c.in_ok-plain_value.ensures in
     omega (arith, c.requires.ready.room, ap size_e k.0)
 
 pub choice-expression-requires : goal.choice-expression-requires
 choice-expression-requires t c =
     let k = at_26 c.requires.ready c.from.ensures c.requires.kind in
-    let v = end_plain c.in-ok-plain-value.ensures in
+    let v = end_plain c.in_ok-plain_value.ensures in
     (omega (arith, k.1.1.0), ready_e c.requires.ready.sound c.requires.ready.here k.1.1 (omega (arith, c.requires.ready.room, ap size_e k.0, c.emit.ensures.end)))
 
 pub choice-emit-requires-2 : goal.choice-emit-requires-2
 choice-emit-requires-2 t c =
     let k = at_26 c.requires.ready c.from.ensures c.requires.kind in
-    let v = end_plain c.in-ok-plain-value.ensures in
-    let w = end_e c.in-ok-expression.ensures in
+    let v = end_plain c.in_ok-plain_value.ensures in
+    let w = end_e c.in_ok-expression.ensures in
     omega (arith, c.requires.ready.room, ap size_e k.0, c.emit.ensures.end)
 
 pub choice-aim-requires : goal.choice-aim-requires
-choice-aim-requires t c = let g = ahead c.in-ok-expression.ensures.wrote in omega (arith, c.here-past.ensures, c.emit.ensures.end, c.emit-2.ensures.end)
+choice-aim-requires t c = let g = ahead c.in_ok-expression.ensures.wrote in omega (arith, c.here-past.ensures, c.emit.ensures.end, c.emit-2.ensures.end)
 
 pub choice-expression-requires-2 : goal.choice-expression-requires-2
 choice-expression-requires-2 t c =
     let k = at_26 c.requires.ready c.from.ensures c.requires.kind in
-    let v = end_plain c.in-ok-plain-value.ensures in
-    let w = end_e c.in-ok-expression.ensures in
+    let v = end_plain c.in_ok-plain_value.ensures in
+    let w = end_e c.in_ok-expression.ensures in
     (omega (arith, k.1.2.0), ready_e c.requires.ready.sound c.requires.ready.here k.1.2 (omega (arith, c.requires.ready.room, ap size_e k.0, c.emit.ensures.end, c.emit-2.ensures.end, c.aim.ensures.end)))
 
 pub choice-aim-requires-2 : goal.choice-aim-requires-2
-choice-aim-requires-2 t c = let g = ahead c.in-ok-expression-2.ensures.wrote in omega (arith, c.here-end.ensures, c.emit-2.ensures.end, c.aim.ensures.end)
+choice-aim-requires-2 t c = let g = ahead c.in_ok-expression-2.ensures.wrote in omega (arith, c.here-end.ensures, c.emit-2.ensures.end, c.aim.ensures.end)
 
 pub choice-returns : goal.choice-returns
 choice-returns t c =
     let k = at_26 c.requires.ready c.from.ensures c.requires.kind in
-    same_e k.0 (choice_done _ _ _ _ _ c.in-ok-plain-value.ensures c.here-past.ensures c.emit.ensures c.in-ok-expression.ensures c.here-end.ensures c.emit-2.ensures c.here-target.ensures c.aim.ensures c.in-ok-expression-2.ensures c.here-target-2.ensures c.aim-2.ensures)
+    same_e k.0 (choice_done _ _ _ _ _ c.in_ok-plain_value.ensures c.here-past.ensures c.emit.ensures c.in_ok-expression.ensures c.here-end.ensures c.emit-2.ensures c.here-target.ensures c.aim.ensures c.in_ok-expression-2.ensures c.here-target-2.ensures c.aim-2.ensures)

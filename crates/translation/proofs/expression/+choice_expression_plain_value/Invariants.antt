@@ -7,5 +7,5 @@ decreases-choice l = 3 * l.n
 abbrev pub decreases-expression : goal.decreases-expression
 decreases-expression l = 3 * l.n + 1
 
-abbrev pub decreases-plain-value : goal.decreases-plain-value
-decreases-plain-value l = 3 * l.n + 2
+abbrev pub decreases-plain_value : goal.decreases-plain_value
+decreases-plain_value l = 3 * l.n + 2

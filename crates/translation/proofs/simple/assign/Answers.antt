@@ -13,40 +13,40 @@ expression-requires c =
     let k = at_1 c.requires.ready c.from.ensures c.requires.kind in
     ready_e c.requires.ready.sound c.requires.ready.here k.1.0 (omega (arith, c.requires.ready.room, ap size_c k.0))
 
-pub returns-in-err-expression : goal.returns-in-err-expression
+pub returns-in_err-expression : goal.returns-in_err-expression
 unfolding names_c
-returns-in-err-expression c =
+returns-in_err-expression c =
     let k = at_1 c.requires.ready c.from.ensures c.requires.kind in
-    let p = err_from_is_err_and c.from-residual.result c.from-residual.ensures.1 in
-    refused_c (p.1 ∙ ap Err p.2) k.0 (first _ c.in-err-expression.ensures.answer) (same_refl _)
+    let p = err_from_is_err_and c.from_residual.result c.from_residual.ensures.1 in
+    refused_c (p.1 ∙ ap Err p.2) k.0 (first _ c.in_err-expression.ensures.answer) (same_refl _)
 
 pub emit-requires : goal.emit-requires
 emit-requires c =
     let k = at_1 c.requires.ready c.from.ensures c.requires.kind in
-    let v = end_e c.in-ok-expression.ensures in
+    let v = end_e c.in_ok-expression.ensures in
     omega (arith, c.requires.ready.room, ap size_c k.0)
 
-pub plain-value-requires : goal.plain-value-requires
-plain-value-requires c =
+pub plain_value-requires : goal.plain_value-requires
+plain_value-requires c =
     let k = at_1 c.requires.ready c.from.ensures c.requires.kind in
-    let v = end_e c.in-ok-expression.ensures in
+    let v = end_e c.in_ok-expression.ensures in
     ready_e c.requires.ready.sound c.requires.ready.here k.1.1 (omega (arith, c.requires.ready.room, ap size_c k.0, c.emit.ensures.end))
 
-pub returns-in-err-plain-value : goal.returns-in-err-plain-value
+pub returns-in_err-plain_value : goal.returns-in_err-plain_value
 unfolding names_c
-returns-in-err-plain-value c =
+returns-in_err-plain_value c =
     let k = at_1 c.requires.ready c.from.ensures c.requires.kind in
-    let p = err_from_is_err_and c.from-residual-in-err-plain-value.result c.from-residual-in-err-plain-value.ensures.1 in
-    refused_c (p.1 ∙ ap Err p.2) k.0 (second c.in-ok-expression.ensures.answer c.in-err-plain-value.ensures.answer) (same_refl _)
+    let p = err_from_is_err_and c.from_residual-in_err-plain_value.result c.from_residual-in_err-plain_value.ensures.1 in
+    refused_c (p.1 ∙ ap Err p.2) k.0 (second c.in_ok-expression.ensures.answer c.in_err-plain_value.ensures.answer) (same_refl _)
 
 pub emit-requires-2 : goal.emit-requires-2
 emit-requires-2 c =
     let k = at_1 c.requires.ready c.from.ensures c.requires.kind in
-    let v = end_e c.in-ok-expression.ensures in
-    let w = end_plain c.in-ok-plain-value.ensures in
+    let v = end_e c.in_ok-expression.ensures in
+    let w = end_plain c.in_ok-plain_value.ensures in
     omega (arith, c.requires.ready.room, ap size_c k.0, c.emit.ensures.end)
 
 pub returns : goal.returns
 returns c =
     let k = at_1 c.requires.ready c.from.ensures c.requires.kind in
-    same_c k.0 (assign_done _ _ _ _ c.in-ok-expression.ensures c.emit.ensures c.in-ok-plain-value.ensures c.emit-2.ensures)
+    same_c k.0 (assign_done _ _ _ _ c.in_ok-expression.ensures c.emit.ensures c.in_ok-plain_value.ensures c.emit-2.ensures)

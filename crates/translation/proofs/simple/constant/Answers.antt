@@ -8,22 +8,22 @@ use Rattle.translation.proofs.Forms.{at_10}
 use Rattle.translation.proofs.Scopes.{older-refl}
 use Rattle.translation.proofs.simple.constant.Goals as goal
 
-pub plain-value-requires : goal.plain-value-requires
-plain-value-requires c =
+pub plain_value-requires : goal.plain_value-requires
+plain_value-requires c =
     let k = at_10 c.requires.ready c.from.ensures c.requires.kind in
     ready_e c.requires.ready.sound c.requires.ready.here k.1 (omega (arith, c.requires.ready.room, ap size_d k.0))
 
-pub returns-in-err-plain-value : goal.returns-in-err-plain-value
+pub returns-in_err-plain_value : goal.returns-in_err-plain_value
 unfolding names_d
-returns-in-err-plain-value c =
+returns-in_err-plain_value c =
     let k = at_10 c.requires.ready c.from.ensures c.requires.kind in
-    let p = err_from_is_err_and c.from-residual.result c.from-residual.ensures.1 in
-    refused_d (p.1 ∙ ap Err p.2) k.0 c.in-err-plain-value.ensures.answer (older-refl _)
+    let p = err_from_is_err_and c.from_residual.result c.from_residual.ensures.1 in
+    refused_d (p.1 ∙ ap Err p.2) k.0 c.in_err-plain_value.ensures.answer (older-refl _)
 
 pub emit-requires : goal.emit-requires
 emit-requires c =
     let k = at_10 c.requires.ready c.from.ensures c.requires.kind in
-    let v = end_plain c.in-ok-plain-value.ensures in
+    let v = end_plain c.in_ok-plain_value.ensures in
     omega (arith, c.requires.ready.room, ap size_d k.0)
 
 pub bind-requires : goal.bind-requires
@@ -34,4 +34,4 @@ bind-requires c =
 pub returns : goal.returns
 returns c =
     let k = at_10 c.requires.ready c.from.ensures c.requires.kind in
-    same_d k.0 (constant_done _ _ _ c.in-ok-plain-value.ensures c.emit.ensures c.bind.ensures)
+    same_d k.0 (constant_done _ _ _ c.in_ok-plain_value.ensures c.emit.ensures c.bind.ensures)

@@ -8,25 +8,25 @@ use Rattle.translation.proofs.Forms.{at_2}
 use Rattle.translation.proofs.Scopes.{same_refl}
 use Rattle.translation.proofs.simple.output.Goals as goal
 
-pub plain-value-requires : goal.plain-value-requires
-plain-value-requires c =
+pub plain_value-requires : goal.plain_value-requires
+plain_value-requires c =
     let k = at_2 c.requires.ready c.from.ensures c.requires.kind in
     ready_e c.requires.ready.sound c.requires.ready.here k.1 (omega (arith, c.requires.ready.room, ap size_c k.0))
 
-pub returns-in-err-plain-value : goal.returns-in-err-plain-value
+pub returns-in_err-plain_value : goal.returns-in_err-plain_value
 unfolding names_c
-returns-in-err-plain-value c =
+returns-in_err-plain_value c =
     let k = at_2 c.requires.ready c.from.ensures c.requires.kind in
-    let p = err_from_is_err_and c.from-residual.result c.from-residual.ensures.1 in
-    refused_c (p.1 ∙ ap Err p.2) k.0 c.in-err-plain-value.ensures.answer (same_refl _)
+    let p = err_from_is_err_and c.from_residual.result c.from_residual.ensures.1 in
+    refused_c (p.1 ∙ ap Err p.2) k.0 c.in_err-plain_value.ensures.answer (same_refl _)
 
 pub emit-requires : goal.emit-requires
 emit-requires c =
     let k = at_2 c.requires.ready c.from.ensures c.requires.kind in
-    let v = end_plain c.in-ok-plain-value.ensures in
+    let v = end_plain c.in_ok-plain_value.ensures in
     omega (arith, c.requires.ready.room, ap size_c k.0)
 
 pub returns : goal.returns
 returns c =
     let k = at_2 c.requires.ready c.from.ensures c.requires.kind in
-    same_c k.0 (output_done _ _ _ c.in-ok-plain-value.ensures c.emit.ensures)
+    same_c k.0 (output_done _ _ _ c.in_ok-plain_value.ensures c.emit.ensures)

@@ -5,19 +5,19 @@ use Rattle.foreign.proofs.Filled.{fill_held, fill_written, fill_left, fill_beyon
 use Rattle.ports.proofs.Keeping.{kept-grown}
 use Rattle.foreign.proofs.data.DataStripStrip.put.Goals as goal
 
-pub invariant-of-self : goal.invariant-of-self
-invariant-of-self c =
+pub invariant_of-self : goal.invariant_of-self
+invariant_of-self c =
     let s = c.args.self.now in
     let h = c.if-used-self.true in
-    let l = length-set s.places.now s.used c.datum-of.result in
-    (omega arith, (fill_written s.places.now s.used c.args.value c.datum-of.result c.datum-of.ensures h s.written, tt))
+    let l = length-set s.places.now s.used c.datum_of.result in
+    record { within = omega arith; written = fill_written s.places.now s.used c.args.value c.datum_of.result c.datum_of.ensures h s.written }
 
 pub returns-then-used-self : goal.returns-then-used-self
 returns-then-used-self c =
     let s = c.args.self.now in
     let xs = s.places.now in
-    let x = c.datum-of.result in
-    let is = c.datum-of.ensures in
+    let x = c.datum_of.result in
+    let is = c.datum_of.ensures in
     let h = c.if-used-self.true in
     record {
       answer = (omega arith, fill_held xs s.used c.args.value x is h, fill_left xs s.used c.args.value x is h);

@@ -2,8 +2,8 @@ use Rattle.std.proofs.Common.{◌<◌, length, rules}
 use Rattle.foreign.proofs.Sampled.{items-over, items-next}
 use Rattle.foreign.proofs.samples.SamplesFeed.take.Goals as goal
 
-pub returns-in-default : goal.returns-in-default
-returns-in-default c =
+pub returns-in_default : goal.returns-in_default
+returns-in_default c =
     let short : length c.args.self.now.left.now < 1 = search rules in
     let none = items-over c.args.self.now.left.now short in
     (none, none)
@@ -11,4 +11,4 @@ returns-in-default c =
 pub returns : goal.returns
 returns c =
     let some : 0 < length c.args.self.now.left.now = search rules in
-    items-next c.args.self.now.left.now _ c.item-of.result some c.item-of.ensures
+    items-next c.args.self.now.left.now _ c.item_of.result some c.item_of.ensures

@@ -5,13 +5,13 @@ use Rattle.machine.proofs.Linking.{back}
 use Rattle.machine.proofs.Turning.{undumped, leave-goes}
 use Rattle.machine.proofs.state.Machine.leave.Goals as goal
 
-pub returns-in-default : goal.returns-in-default
-returns-in-default c = undumped leave _ _ _ refl c.in-default.ensures.stacked.0
+pub returns-in_default : goal.returns-in_default
+returns-in_default c = undumped leave _ _ _ refl c.in_default.ensures.stacked.0
 
-pub invariant-of-self-2 : goal.invariant-of-self-2
-invariant-of-self-2 c =
+pub invariant_of-self-2 : goal.invariant_of-self-2
+invariant_of-self-2 c =
     let b = back _ _ _ _ _ _ c.in-Some.ensures.stacked c.truncate.ensures.stacked c.args.self.now.older c.args.self.now.inner in
-    (search rules, (search rules, (search rules, (search rules, (b.links, (b.nests, tt))))))
+    record { valued = search rules; celled = search rules; entered = search rules; framed = search rules; older = b.links; inner = b.nests }
 
 pub returns : goal.returns
 returns c =

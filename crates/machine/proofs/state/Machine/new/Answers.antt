@@ -3,9 +3,9 @@ use Rattle.vocabulary.specs.Tables.{stack, front}
 use Rattle.machine.specs.Links.{chain, chains, linked, nested}
 use Rattle.machine.proofs.state.Machine.new.Goals as goal
 
-pub invariant-of-result : goal.invariant-of-result
+pub invariant_of-result : goal.invariant_of-result
 unfolding stack linked nested
-invariant-of-result c = (search rules, (search rules, (search rules, (search rules, (refl, (refl, tt))))))
+invariant_of-result c = record { valued = search rules; celled = search rules; entered = search rules; framed = search rules; older = refl; inner = refl }
 
 pub returns : goal.returns
 unfolding stack front chain chains

@@ -3,9 +3,9 @@ use Rattle.vocabulary.specs.Tables.{stack, front}
 use Rattle.machine.specs.Links.{chain, chains, linked, nested}
 use Rattle.machine.proofs.state.Machine.restart.Goals as goal
 
-pub invariant-of-self : goal.invariant-of-self
+pub invariant_of-self : goal.invariant_of-self
 unfolding stack linked nested
-invariant-of-self c = (search rules, (search rules, (search rules, (search rules, (refl, (refl, tt))))))
+invariant_of-self c = record { valued = search rules; celled = search rules; entered = search rules; framed = search rules; older = refl; inner = refl }
 
 pub returns : goal.returns
 unfolding stack front chain chains

@@ -10,13 +10,10 @@ use Rattle.ports.proofs.text.TextStrip.add.Goals as goal
 pub loop-i-init : goal.loop-i-init
 loop-i-init c = (paste_none c.args.self.now.bytes.now c.args.self.now.used c.args.line.now, refl, refl)
 
-pub invariant-of-self : goal.invariant-of-self
-invariant-of-self c =
+pub invariant_of-self : goal.invariant_of-self
+invariant_of-self c =
     let w = c.loop-i.invariant.1 in
-    let h : c.loop-i.self.used ≤ c.args.self.now.used + c.loop-i.i = omega arith in (
-      simp length-set (search rules),
-      (subst Whole (sym (take-set-le c.loop-i.self.used c.loop-i.self.bytes.now (c.args.self.now.used + c.loop-i.i) _ h)) c.loop-i.self.whole, tt),
-    )
+    let h : c.loop-i.self.used ≤ c.args.self.now.used + c.loop-i.i = omega arith in record { within = simp length-set (search rules); whole = subst Whole (sym (take-set-le c.loop-i.self.used c.loop-i.self.bytes.now (c.args.self.now.used + c.loop-i.i) _ h)) c.loop-i.self.whole }
 
 pub loop-i-preserved : goal.loop-i-preserved
 loop-i-preserved c =
@@ -27,8 +24,8 @@ loop-i-preserved c =
       i.2,
     )
 
-pub invariant-of-self-then-n-self : goal.invariant-of-self-then-n-self
-invariant-of-self-then-n-self c =
+pub invariant_of-self-then-n-self : goal.invariant_of-self-then-n-self
+invariant_of-self-then-n-self c =
     let b = c.args.self.now.bytes.now in
     let m = c.args.self.now.used in
     let l = c.args.line.now in
@@ -38,7 +35,7 @@ invariant-of-self-then-n-self c =
     let within = c.args.self.now.within in
     let size : length c.loop-i.self.bytes.now ≡ length b = ap length now-is ∙ length-paste b m l (length l) (omega arith) (omega arith) in
     let front = ap (take (m + length l)) now-is ∙ take-line b l m (length l) (omega arith) refl in
-    (omega arith, (subst Whole (sym front) (whole_append (take m b) l c.args.self.now.whole c.requires), tt))
+    record { within = omega arith; whole = subst Whole (sym front) (whole_append (take m b) l c.args.self.now.whole c.requires) }
 
 pub returns-after-loop-i : goal.returns-after-loop-i
 returns-after-loop-i c =
