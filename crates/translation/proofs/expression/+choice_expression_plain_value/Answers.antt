@@ -46,84 +46,84 @@ expression-returns-in-22 t c =
     let k = at_22 c.requires c.from.ensures c.in-22.is in
     same_e k.0 (record { answer = refl; wrote = c.emit-in-22.ensures })
 
-pub expression-returns-in_err-newer : goal.expression-returns-in_err-newer
+pub expression-returns-in_err-newer-in-23 : goal.expression-returns-in_err-newer-in-23
 unfolding names_e
-expression-returns-in_err-newer t c =
+expression-returns-in_err-newer-in-23 t c =
     let k = at_23 c.requires c.from.ensures c.in-23.is in
     let p = err_from_is_err_and c.from_residual.result c.from_residual.ensures.1 in
-    refused_e (p.1 ∙ ap Err p.2) k.0 (sym c.in_err-newer.ensures)
+    refused_e (p.1 ∙ ap Err p.2) k.0 (sym c.in_err-newer-in-23.ensures)
 
-pub expression-returns-in_ok-newer : goal.expression-returns-in_ok-newer
-expression-returns-in_ok-newer t c =
+pub expression-returns-in_ok-newer-in-23 : goal.expression-returns-in_ok-newer-in-23
+expression-returns-in_ok-newer-in-23 t c =
     let k = at_23 c.requires c.from.ensures c.in-23.is in
-    same_e k.0 (name_done _ _ _ c.in_ok-newer.ensures c.emit-in-23.ensures)
+    same_e k.0 (name_done _ _ _ c.in_ok-newer-in-23.ensures c.emit-in-23.ensures)
 
 pub expression-plain_value-requires : goal.expression-plain_value-requires
 expression-plain_value-requires t c =
     let k = at_24 c.requires c.from.ensures c.in-24.is in
     (omega (arith, k.1.0.0), ready_e c.requires.sound c.requires.here k.1.0 (omega (arith, c.requires.room, ap size_e k.0)))
 
-pub expression-returns-in_err-plain_value : goal.expression-returns-in_err-plain_value
+pub expression-returns-in_err-plain_value-in-24 : goal.expression-returns-in_err-plain_value-in-24
 unfolding names_e
-expression-returns-in_err-plain_value t c =
+expression-returns-in_err-plain_value-in-24 t c =
     let k = at_24 c.requires c.from.ensures c.in-24.is in
-    let p = err_from_is_err_and c.from_residual-in_err-plain_value.result c.from_residual-in_err-plain_value.ensures.1 in
-    refused_e (p.1 ∙ ap Err p.2) k.0 (first _ c.in_err-plain_value.ensures.answer)
+    let p = err_from_is_err_and c.from_residual-in_err-plain_value-in-24.result c.from_residual-in_err-plain_value-in-24.ensures.1 in
+    refused_e (p.1 ∙ ap Err p.2) k.0 (first _ c.in_err-plain_value-in-24.ensures.answer)
 
 pub expression-plain_value-requires-in-24 : goal.expression-plain_value-requires-in-24
 expression-plain_value-requires-in-24 t c =
     let k = at_24 c.requires c.from.ensures c.in-24.is in
-    let v = end_plain c.in_ok-plain_value.ensures in
+    let v = end_plain c.in_ok-plain_value-in-24.ensures in
     (omega (arith, k.1.1.0), ready_e c.requires.sound c.requires.here k.1.1 (omega (arith, c.requires.room, ap size_e k.0)))
 
-pub expression-returns-in_err-plain_value-2 : goal.expression-returns-in_err-plain_value-2
+pub expression-returns-in_err-plain_value-in-24-2 : goal.expression-returns-in_err-plain_value-in-24-2
 unfolding names_e
-expression-returns-in_err-plain_value-2 t c =
+expression-returns-in_err-plain_value-in-24-2 t c =
     let k = at_24 c.requires c.from.ensures c.in-24.is in
-    let p = err_from_is_err_and c.from_residual-in_err-plain_value-2.result c.from_residual-in_err-plain_value-2.ensures.1 in
-    refused_e (p.1 ∙ ap Err p.2) k.0 (second c.in_ok-plain_value.ensures.answer c.in_err-plain_value-2.ensures.answer)
+    let p = err_from_is_err_and c.from_residual-in_err-plain_value-in-24-2.result c.from_residual-in_err-plain_value-in-24-2.ensures.1 in
+    refused_e (p.1 ∙ ap Err p.2) k.0 (second c.in_ok-plain_value-in-24.ensures.answer c.in_err-plain_value-in-24-2.ensures.answer)
 
 pub expression-emit-requires-in-24 : goal.expression-emit-requires-in-24
 expression-emit-requires-in-24 t c =
     let k = at_24 c.requires c.from.ensures c.in-24.is in
-    let v = end_plain c.in_ok-plain_value.ensures in
-    let w = end_plain c.in_ok-plain_value-2.ensures in
+    let v = end_plain c.in_ok-plain_value-in-24.ensures in
+    let w = end_plain c.in_ok-plain_value-in-24-2.ensures in
     omega (arith, c.requires.room, ap size_e k.0)
 
-pub expression-returns-in_ok-plain_value-2 : goal.expression-returns-in_ok-plain_value-2
-expression-returns-in_ok-plain_value-2 t c =
+pub expression-returns-in_ok-plain_value-in-24-2 : goal.expression-returns-in_ok-plain_value-in-24-2
+expression-returns-in_ok-plain_value-in-24-2 t c =
     let k = at_24 c.requires c.from.ensures c.in-24.is in
-    same_e k.0 (operation_done _ _ _ _ _ c.operation.ensures c.in_ok-plain_value.ensures c.in_ok-plain_value-2.ensures c.emit-in-24.ensures)
+    same_e k.0 (operation_done _ _ _ _ _ c.operation.ensures c.in_ok-plain_value-in-24.ensures c.in_ok-plain_value-in-24-2.ensures c.emit-in-24.ensures)
 
-pub expression-returns-in_err-newer-2 : goal.expression-returns-in_err-newer-2
+pub expression-returns-in_err-newer-in-25 : goal.expression-returns-in_err-newer-in-25
 unfolding names_e
-expression-returns-in_err-newer-2 t c =
+expression-returns-in_err-newer-in-25 t c =
     let k = at_25 c.requires c.from.ensures c.in-25.is in
-    let p = err_from_is_err_and c.from_residual-in_err-newer-2.result c.from_residual-in_err-newer-2.ensures.1 in
-    refused_e (p.1 ∙ ap Err p.2) k.0 (first _ (sym c.in_err-newer-2.ensures))
+    let p = err_from_is_err_and c.from_residual-in_err-newer-in-25.result c.from_residual-in_err-newer-in-25.ensures.1 in
+    refused_e (p.1 ∙ ap Err p.2) k.0 (first _ (sym c.in_err-newer-in-25.ensures))
 
 pub expression-expression-requires : goal.expression-expression-requires
 expression-expression-requires t c =
     let k = at_25 c.requires c.from.ensures c.in-25.is in
     (omega (arith, k.1.0), ready_e c.requires.sound c.requires.here k.1 (omega (arith, c.requires.room, ap size_e k.0)))
 
-pub expression-returns-in_err-expression : goal.expression-returns-in_err-expression
+pub expression-returns-in_err-expression-in-25 : goal.expression-returns-in_err-expression-in-25
 unfolding names_e
-expression-returns-in_err-expression t c =
+expression-returns-in_err-expression-in-25 t c =
     let k = at_25 c.requires c.from.ensures c.in-25.is in
-    let p = err_from_is_err_and c.from_residual-in_err-expression.result c.from_residual-in_err-expression.ensures.1 in
-    refused_e (p.1 ∙ ap Err p.2) k.0 (second (sym c.in_ok-newer-2.ensures.0) c.in_err-expression.ensures.answer)
+    let p = err_from_is_err_and c.from_residual-in_err-expression-in-25.result c.from_residual-in_err-expression-in-25.ensures.1 in
+    refused_e (p.1 ∙ ap Err p.2) k.0 (second (sym c.in_ok-newer-in-25.ensures.0) c.in_err-expression-in-25.ensures.answer)
 
 pub expression-emit-requires-in-25 : goal.expression-emit-requires-in-25
 expression-emit-requires-in-25 t c =
     let k = at_25 c.requires c.from.ensures c.in-25.is in
-    let v = end_e c.in_ok-expression.ensures in
+    let v = end_e c.in_ok-expression-in-25.ensures in
     omega (arith, c.requires.room, ap size_e k.0)
 
-pub expression-returns-in_ok-expression : goal.expression-returns-in_ok-expression
-expression-returns-in_ok-expression t c =
+pub expression-returns-in_ok-expression-in-25 : goal.expression-returns-in_ok-expression-in-25
+expression-returns-in_ok-expression-in-25 t c =
     let k = at_25 c.requires c.from.ensures c.in-25.is in
-    same_e k.0 (call_done _ _ _ _ c.in_ok-newer-2.ensures c.in_ok-expression.ensures c.emit-in-25.ensures)
+    same_e k.0 (call_done _ _ _ _ c.in_ok-newer-in-25.ensures c.in_ok-expression-in-25.ensures c.emit-in-25.ensures)
 
 pub choice-plain_value-requires : goal.choice-plain_value-requires
 choice-plain_value-requires t c =
