@@ -10,7 +10,7 @@ returns-in_err-program c =
     let p = err_from_is_err_and c.from_residual.result c.from_residual.ensures.1 in
     rw (p.1, p.2) (table-refused c.args.sheet.now c.in-Some.counts f _ c.in_err-program.ensures)
 
-code_begins : (c : goal.In-ok-program) → 16 + 8 * c.in-Some.counts.nodes ≤ length c.args.sheet.now
+code_begins : (c : goal.In_ok-program) → 16 + 8 * c.in-Some.counts.nodes ≤ length c.args.sheet.now
 code_begins c =
     let f = frame_is c.args.sheet.now c.in-Some.counts c.in-Some.ensures in
     let n = f.nodes in
