@@ -14,7 +14,6 @@ use Rattle.language.specs.Scope.{scope_after}
 use Rattle.language.specs.Translation.{behind_e, behind_c, behind_d, plain_end}
 use Rattle.language.specs.Outcomes.{bind, plainly, tested, located, putting, as_procedure}
 use Rattle.language.specs.Outcomes.Denoted.{procedure_body}
-use Rattle.language.specs.Outcomes.Found.{named}
 use Rattle.language.specs.Outcomes.Outcome.{done}
 use Rattle.language.specs.Meaning.{eval_e, eval_c}
 use Rattle.machine.specs.State.{config, ahead, ports, spent_in, noted}

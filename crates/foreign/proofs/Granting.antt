@@ -1,19 +1,19 @@
 -- Fuel granted in runs is fuel granted at once; and a take that has ended stays where it is, whatever else is granted.
-use Rattle.std.proofs.Common.{◌≡◌, ℕ, zero, suc, ◌+◌, ◌-◌, ◌≤◌, Bool, true, false, leb, List, Ok, Err, Result, sym, refl, ap, ◌∙◌, subst, arith}
+use Rattle.std.proofs.Common.{◌≡◌, ℕ, zero, suc, ◌+◌, ◌-◌, ◌≤◌, Bool, true, false, List, Ok, Err, sym, refl, ap, ◌∙◌, subst, arith}
 use Rattle.std.specs.Result.{result_and}
 use Rattle.std.proofs.lemmas.Bool.{le-leb}
 use Rattle.vocabulary.specs.declared.code.Word.{Word}
 use Rattle.vocabulary.specs.declared.end.End.{End}
 use Rattle.vocabulary.specs.declared.refusal.Cause.TheVariants.{TakeEnded, Fuel}
 use Rattle.vocabulary.specs.declared.refusal.Refusal.{Refusal}
-use Rattle.vocabulary.specs.Refusals.{Verdict, unless}
+use Rattle.vocabulary.specs.Refusals.{unless}
 use Rattle.vocabulary.specs.World.{World, Rules}
 use Rattle.machine.specs.declared.tables.Status.{Status}
 use Rattle.machine.specs.declared.tables.Status.TheVariants.{Running, Halted, Broken}
-use Rattle.machine.specs.Machine.{step, iterate, taken}
+use Rattle.machine.specs.Machine.{iterate, taken}
 use Rattle.machine.specs.Seen.{stands}
 use Rattle.machine.specs.State.{Core, Ports, State}
-use Rattle.machine.specs.State.State.{running, halted, broken}
+use Rattle.machine.specs.State.State.{halted, broken}
 use Rattle.agreement.proofs.Steps.{iterate_add, halted-stays, broken-stays}
 use Rattle.sequencer.specs.Calls.{state_of, Stepped, program_verdict, run_verdict, goes_on, grants}
 use Rattle.sequencer.specs.declared.state.Sequencer.{Sequencer}

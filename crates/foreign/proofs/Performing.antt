@@ -1,5 +1,5 @@
 -- From the sequencer after all grants to what a call says of its take.
-use Rattle.std.proofs.Common.{◌≡◌, ℕ, ◌/◌, ◌≤◌, leb, List, length, is_some, Ok, Err, Result, sym, refl, ap, ◌∙◌, subst, arith}
+use Rattle.std.proofs.Common.{◌≡◌, ℕ, ◌/◌, ◌≤◌, leb, List, length, is_some, Ok, Result, sym, refl, ap, ◌∙◌, subst, arith}
 use Rattle.std.specs.Result.{result_and}
 use Rattle.std.proofs.lemmas.Bool.{le-leb}
 use Rattle.vocabulary.specs.declared.refusal.Cause.TheVariants.{NoProgram, Fuel}
@@ -18,15 +18,15 @@ use Rattle.machine.specs.declared.tables.Status.{Status}
 use Rattle.machine.specs.declared.tables.Status.TheVariants.{Running, Halted, Broken}
 use Rattle.machine.specs.Machine.{iterate, taken, start}
 use Rattle.machine.specs.Seen.{stands}
-use Rattle.machine.specs.State.{Core, Ports, State}
-use Rattle.machine.specs.State.State.{running, halted, broken}
+use Rattle.machine.specs.State.{Core, Ports}
+use Rattle.machine.specs.State.State.{broken}
 use Rattle.agreement.specs.Agreement.{Agreement, Agrees}
 use Rattle.sequencer.specs.declared.report.Report.{Report}
 use Rattle.sequencer.specs.Calls.{told, report_answer}
 use Rattle.sequencer.specs.Model.{Model, begun, code_of}
 use Rattle.sequencer.specs.Reports.{report_of}
 use Rattle.sheet.specs.Faithful.{program_of}
-use Rattle.session.specs.Law.{world_of, Law}
+use Rattle.session.specs.Law.{world_of}
 use Rattle.session.proofs.Lawful.{At, law}
 use Rattle.foreign.specs.Calls.{Granted, tree_in, perform_verdict, Tells, take_of, Performed, Performs}
 

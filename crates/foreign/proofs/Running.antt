@@ -1,5 +1,5 @@
 -- From a take between a feed and a strip to what the owner of samples and memory learns of it.
-use Rattle.std.proofs.Common.{◌≡◌, ℕ, List, [], length, Result, sym, ap, ◌∙◌, subst}
+use Rattle.std.proofs.Common.{◌≡◌, ℕ, List, [], length, Result, ap, ◌∙◌, subst}
 use Rattle.vocabulary.specs.declared.item.Item.{Item}
 use Rattle.vocabulary.specs.declared.refusal.Refusal.{Refusal}
 use Rattle.vocabulary.specs.declared.value.Plain.{Plain}

@@ -1,6 +1,5 @@
 -- What the ghost members of the feed and the strip have to show.
-use Rattle.std.specs.Prelude.{ℕ, List, [], ◌∷◌, map}
-use Rattle.ports.specs.declared.trace.Record.{Record}
+use Rattle.std.specs.Prelude.{List, [], ◌∷◌}
 use Rattle.ports.specs.Feeds.{Lawful}
 use Rattle.ports.specs.Laws.{items-lawful}
 use Rattle.foreign.specs.declared.samples.Sample.{Sample}

@@ -1,7 +1,7 @@
 -- The source meaning: what a tree does, without instructions. A visit is counted whenever a node begins, and for a while at
 -- each test instead. The work of a node is given how deep it may go and how many visits are left; the depth starts equal to
 -- the visits, so that the visits run out first.
-use Rattle.std.specs.Prelude.{ℕ, zero, suc, Bool, true, false, List, [], ◌∷◌, ◌++◌, length, take, slice_set}
+use Rattle.std.specs.Prelude.{ℕ, zero, suc, true, false, List, [], ◌∷◌, ◌++◌, length, take, slice_set}
 use Rattle.vocabulary.specs.declared.end.End.{End}
 use Rattle.vocabulary.specs.declared.end.End.TheVariants.{Halt}
 use Rattle.vocabulary.specs.declared.value.Plain.TheVariants.{Number, Truth}

@@ -1,6 +1,6 @@
 -- The translation of a tree. Each instruction carries the number of its node; the DEREF of a plain value carries that of the
 -- expression, the HALT that of the root.
-use Rattle.std.specs.Prelude.{ℕ, zero, suc, List, [], ◌∷◌, ◌++◌}
+use Rattle.std.specs.Prelude.{ℕ, suc, List, [], ◌∷◌, ◌++◌}
 use Rattle.vocabulary.specs.declared.code.Instruction.{Instruction}
 use Rattle.vocabulary.specs.declared.code.Instruction.TheVariants.{Num, Truth, Read, Look, Deref, Op, JumpFalse, Jump, Call, Ret, IsLoc, Store, Put, Enter, Leave, Bind, New, Clos, Halt}
 use Rattle.vocabulary.specs.declared.code.Word.{Word}

@@ -1,5 +1,5 @@
 -- One turn of a copy, by what the take and the put answered; n readings may still be copied.
-use Rattle.std.proofs.Common.{◌≡◌, ℕ, zero, suc, ◌-◌, ◌<◌, ◌≤◌, true, false, cond, leb, List, [], ◌∷◌, ◌++◌, ℤ, Some, None, sym, refl, ap, ◌∙◌, arith}
+use Rattle.std.proofs.Common.{◌≡◌, ℕ, suc, ◌-◌, ◌<◌, cond, leb, List, [], ◌∷◌, ◌++◌, ℤ, Some, None, sym, ap, ◌∙◌, arith}
 use Rattle.std.proofs.lemmas.Bool.{le-leb, lt-leb}
 use Rattle.vocabulary.specs.declared.item.Item.{Item}
 use Rattle.vocabulary.specs.declared.item.Item.TheVariants.{Reading, Fault}

@@ -1,7 +1,7 @@
 -- A strip that grew from `used` to `filled` places, and left the places beyond those alone, keeps its memory.
-use Rattle.std.proofs.Common.{◌≡◌, ℕ, ◌≤◌, List, ◌++◌, length, take, drop, sym, refl, ap, ◌∙◌, arith, MutBor}
+use Rattle.std.proofs.Common.{◌≡◌, ℕ, ◌≤◌, List, ◌++◌, length, take, drop, sym, ap, ◌∙◌, arith, MutBor}
 use Rattle.std.proofs.lemmas.List.{length-take-le, take-append-drop}
-use Rattle.ports.specs.Kept.{overlay, Kept}
+use Rattle.ports.specs.Kept.{Kept}
 
 module _ {X : Type 0} (earlier later : MutBor (List X)) (used filled : ℕ) (before after : List X)
     (here : later.ghost_name ≡ earlier.ghost_name) (size : length later.now ≡ length earlier.now)

@@ -1,5 +1,5 @@
 -- What one more line makes of a text strip.
-use Rattle.std.proofs.Common.{◌≡◌, ℕ, ◌+◌, ◌-◌, ◌<◌, ◌≤◌, List, [], ◌∷◌, ◌++◌, length, take, drop, sym, refl, ap, ◌∙◌, append_assoc, arith}
+use Rattle.std.proofs.Common.{◌≡◌, ℕ, ◌+◌, ◌-◌, ◌≤◌, List, ◌++◌, length, take, drop, sym, ap, ◌∙◌, append_assoc, arith}
 use Rattle.std.specs.Borrow.{MutBor}
 use lib.Seq.{paste, take-paste}
 use Rattle.std.proofs.lemmas.List.{take_all, take_at, drop_at, length-take-le, length-append, length-drop}

@@ -1,7 +1,6 @@
 -- Text is read back as it was written: the values in the lines of values are those values.
 use Rattle.std.proofs.Common.{◌≡◌, ℕ, suc, ◌+◌, ◌-◌, ◌%◌, ◌^◌, ◌<◌, true, false, cond, eqb, List, [], ◌∷◌, ◌++◌, pos, negsuc, decimal, sym, refl, ap, ◌∙◌, append_assoc, append-nil, arith}
 use lib.Signed.{mag}
-use Rattle.std.specs.List.{flat_map}
 use Rattle.std.specs.Str.Parse.{digits_value as numeral}
 use Rattle.std.proofs.lemmas.Fmt.{decimal_is_IsNumeral, decimal_by_steps}
 use Rattle.std.proofs.lemmas.Bool.{ne_eqb}

@@ -1,10 +1,9 @@
 -- A ramp without its first reading is the ramp that starts one step on; what that gives of its items and of whether they fit.
-use Rattle.std.proofs.Common.{◌≡◌, ℕ, zero, suc, ◌-◌, ◌^◌, ◌<◌, ◌≤◌, Bool, true, false, ◌&&◌, List, [], ◌∷◌, ℤ, pos, ◌+ℤ◌, ◌*ℤ◌, sym, refl, ap, ◌∙◌, arith, w32, SFits, to_z, of_z}
+use Rattle.std.proofs.Common.{◌≡◌, ℕ, zero, suc, ◌-◌, ◌^◌, ◌<◌, ◌≤◌, true, false, ◌&&◌, ◌∷◌, ℤ, pos, ◌+ℤ◌, ◌*ℤ◌, sym, refl, ap, ◌∙◌, arith, w32, SFits, to_z, of_z}
 use lib.IntN.{zero-*ℤ, suc_ℤ-*ℤ, +ℤ_idr, +ℤ_assoc, +ℤ_comm}
 use lib.Signed.{mag}
 use Rattle.std.proofs.lemmas.Int.{to_z-of_z}
 use Rattle.std.proofs.lemmas.Bool.{lt-ltb, ltb-true, and_parts}
-use Rattle.vocabulary.specs.declared.item.Item.{Item}
 use Rattle.vocabulary.specs.declared.item.Item.TheVariants.{Reading}
 use Rattle.vocabulary.specs.Numbers.{within32}
 use Rattle.ports.specs.Ramps.{rung, rungs, rungs_fit, ramp_items, ramp_fits}

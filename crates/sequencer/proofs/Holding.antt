@@ -1,5 +1,5 @@
 -- What a sequencer holds, as a table and as a sheet have it.
-use Rattle.std.proofs.Common.{◌≡◌, ℕ, ◌+◌, ◌-◌, ◌*◌, ◌/◌, ◌≤◌, Bool, true, false, ◌&&◌, List, ◌++◌, length, take, drop, Some, None, Ok, Err, Option, sym, refl, ap, ◌∙◌, arith, length-drop}
+use Rattle.std.proofs.Common.{◌≡◌, ℕ, ◌+◌, ◌-◌, ◌*◌, ◌/◌, ◌≤◌, Bool, true, false, List, ◌++◌, length, take, drop, Some, None, Ok, Err, Option, sym, refl, ap, ◌∙◌, arith, length-drop}
 use native.Mathlib.Nat.{sub-zero}
 use Rattle.vocabulary.specs.declared.refusal.Refusal.{Refusal}
 use Rattle.std.specs.Str.{bytes_eq}

@@ -3,7 +3,6 @@ use Rattle.std.specs.Prelude.{◌≡◌, ℕ, ◌+◌, Bool, true, false, ◌&&�
 use Rattle.std.specs.Result.{result_and}
 use Rattle.vocabulary.specs.declared.refusal.Cause.TheVariants.{NoProgram, TakeEnded, Fuel}
 use Rattle.vocabulary.specs.declared.refusal.Refusal.{Refusal}
-use Rattle.vocabulary.specs.declared.value.Plain.{Plain}
 use Rattle.vocabulary.specs.Refusals.{Verdict, unless}
 use Rattle.vocabulary.specs.World.{Rules}
 use Rattle.machine.specs.declared.tables.Status.{Status}

@@ -1,5 +1,5 @@
 -- What is reported of a take.
-use Rattle.std.specs.Prelude.{ℕ, Bool, true, false, is_some, Some, None, Option}
+use Rattle.std.specs.Prelude.{ℕ, Bool, is_some, Some, None, Option}
 use Rattle.vocabulary.specs.Ends.{number_of, code_of}
 use Rattle.machine.specs.declared.tables.Status.{Status}
 use Rattle.machine.specs.declared.tables.Status.TheVariants.{Running, Halted, Broken}

@@ -13,7 +13,7 @@ use Rattle.machine.specs.declared.tables.Status.TheVariants.{Running, Halted, Br
 use Rattle.machine.specs.Machine.{iterate, taken, start}
 use Rattle.machine.specs.Seen.{stands}
 use Rattle.machine.specs.State.{Core, Ports, State, joined}
-use Rattle.machine.specs.State.State.{running, halted, broken}
+use Rattle.machine.specs.State.State.{running, halted}
 use Rattle.agreement.specs.Agreement.{FirstPart, FirstPartOf, Agrees}
 use Rattle.agreement.proofs.Steps.{onward, halted-stays}
 use Rattle.sequencer.specs.declared.report.Report.{Report}

@@ -1,5 +1,5 @@
 -- The law of takes: whatever is called, in whatever order, every take does what its tree means.
-use Rattle.std.specs.Prelude.{◌≡◌, ℕ, ◌+◌, ◌*◌, ◌≤◌, true, List, [], map, Some, None}
+use Rattle.std.specs.Prelude.{◌≡◌, ℕ, ◌+◌, ◌*◌, ◌≤◌, List, [], map, Some, None}
 use Rattle.std.specs.List.{AllByRecursion as All}
 use Rattle.vocabulary.specs.declared.end.End.{End}
 use Rattle.vocabulary.specs.World.{World, world, Rules}

@@ -1,16 +1,15 @@
 -- A sheet opens exactly when it is written from an accepted table, and that table stands in it.
-use Rattle.std.proofs.Common.{◌≡◌, ℕ, ◌+◌, ◌-◌, ◌*◌, ◌/◌, ◌%◌, ◌<◌, ◌≤◌, Bool, true, List, [], ◌∷◌, ◌++◌, length, take, drop, Ok, sym, refl, ap, ◌∙◌, arith, length-drop, length-take-le, drop-drop}
+use Rattle.std.proofs.Common.{◌≡◌, ℕ, ◌-◌, ◌*◌, ◌/◌, ◌%◌, ◌<◌, ◌≤◌, true, List, [], ◌++◌, length, take, drop, Ok, sym, refl, ap, ◌∙◌, arith, length-drop, length-take-le, drop-drop}
 use Rattle.std.specs.Str.{bytes_eq}
 use Rattle.std.proofs.ByRecursion.{All-take, All-drop}
 use Rattle.std.proofs.lemmas.Slice.Eq.{bytes_eq-Decides}
 use Rattle.std.proofs.lemmas.List.{take-append-drop}
 use Rattle.vocabulary.specs.declared.refusal.Cause.TheVariants.{TableLength, SheetHeader, NotTheTranslation}
 use Rattle.vocabulary.specs.declared.code.Word.{Word}
-use Rattle.vocabulary.specs.Refusals.{Verdict, unless}
+use Rattle.vocabulary.specs.Refusals.{unless}
 use Rattle.language.specs.Names.{names_c}
 use Rattle.language.specs.Reading.{tree_of}
 use Rattle.language.specs.Table.{field, nodes_of, fits}
-use Rattle.language.specs.Translation.{program}
 use Rattle.language.specs.Verdicts.{table_verdict, nodes_verdict, shape_verdict}
 use Rattle.language.proofs.Accepted.{well_formed}
 use Rattle.language.proofs.Filling.{length-nodes}
@@ -19,10 +18,10 @@ use Rattle.language.proofs.Sizes.{root-size}
 use Rattle.language.proofs.Verdicts.{both_accept, accept_both, unless_accepts, accept_unless}
 use Rattle.sheet.specs.Layout.{two, word_bytes, table_bytes, code_bytes, header, offset_of, total_of, size_of, sheet_of}
 use Rattle.sheet.specs.Sheets.{node_count, word_count, framed, table_part, code_part, open_verdict}
-use Rattle.sheet.specs.Faithful.{Bytes, program_of, SheetOf, OpensSheets, OneTable, Reopening}
+use Rattle.sheet.specs.Faithful.{Bytes, program_of, OpensSheets, OneTable, Reopening}
 use Rattle.sheet.proofs.Entries.{encoded-length}
 use Rattle.sheet.proofs.Fields.{fields-bytes, table-bytes}
-use Rattle.sheet.proofs.Framing.{Frame, frame_of, table_part_lem, code_part_lem, sheet-framed}
+use Rattle.sheet.proofs.Framing.{frame_of, table_part_lem, code_part_lem, sheet-framed}
 use Rattle.sheet.proofs.Written.{written}
 
 -- the translation of a table

@@ -1,10 +1,8 @@
 -- Bytes and the 16-bit fields read from them: a field of bytes is written as the same bytes.
-use Rattle.std.proofs.Common.{◌≡◌, ℕ, zero, suc, ◌+◌, ◌-◌, ◌*◌, ◌/◌, ◌%◌, ◌<◌, ◌≤◌, List, [], ◌∷◌, ◌++◌, length, get_or, take, drop, sym, refl, ap, ◌∙◌, inl, inr, append_assoc, add_assoc, add-one, arith, drop-cons, drop-drop, take-add}
-use Rattle.std.specs.List.{AllByRecursion as All}
+use Rattle.std.proofs.Common.{◌≡◌, ℕ, zero, suc, ◌+◌, ◌*◌, ◌/◌, ◌%◌, ◌<◌, ◌≤◌, List, [], ◌∷◌, ◌++◌, length, get_or, take, drop, sym, refl, ap, ◌∙◌, inl, inr, add_assoc, add-one, arith, drop-cons, drop-drop, take-add}
 use Rattle.std.proofs.ByRecursion.{All-get_or}
 use Rattle.std.proofs.lemmas.List.{take_all, get_or_past}
 use Rattle.std.proofs.lemmas.Bool.{cases_lt}
-use Rattle.vocabulary.specs.declared.node.Node.{Node}
 use Rattle.language.specs.Table.{field, node_at, nodes_in, nodes_of}
 use Rattle.sheet.specs.Layout.{two, node_bytes, table_bytes}
 use Rattle.sheet.specs.Faithful.{Bytes}

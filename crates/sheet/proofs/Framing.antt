@@ -1,13 +1,12 @@
 -- The frame of a sheet: what the test of it tells, and that every sheet that is written passes it.
-use Rattle.std.proofs.Common.{◌≡◌, ℕ, ◌+◌, ◌-◌, ◌*◌, ◌<◌, ◌≤◌, Bool, true, false, ◌&&◌, eqb, List, [], ◌∷◌, ◌++◌, length, take, drop, Ok, Err, sym, refl, ap, ◌∙◌, inl, inr, arith, length-append, drop-drop, take_at, drop_at}
+use Rattle.std.proofs.Common.{◌≡◌, ℕ, ◌*◌, ◌<◌, Bool, true, false, ◌&&◌, eqb, List, ◌++◌, length, take, drop, Err, sym, refl, ap, ◌∙◌, arith, length-append, drop-drop, take_at, drop_at}
 use Rattle.std.specs.Result.{result_and}
-use Rattle.std.proofs.lemmas.Bool.{and_parts, and_from, eq-eqb, eqb-true, cases_Bool}
-use Rattle.vocabulary.specs.declared.refusal.Cause.{Cause}
+use Rattle.std.proofs.lemmas.Bool.{and_parts, eq-eqb, eqb-true}
 use Rattle.vocabulary.specs.declared.refusal.Cause.TheVariants.{SheetHeader}
 use Rattle.vocabulary.specs.Refusals.{Verdict, refusal, unless}
 use Rattle.language.specs.Table.{field}
-use Rattle.sheet.specs.Layout.{Program, node_bytes, word_bytes, table_bytes, code_bytes, header, offset_of, total_of, size_of, half_of, sheet_of}
-use Rattle.sheet.specs.Sheets.{node_count, word_count, framed, table_part, code_part, open_verdict}
+use Rattle.sheet.specs.Layout.{Program, node_bytes, word_bytes, table_bytes, code_bytes, offset_of, total_of, size_of, half_of, sheet_of}
+use Rattle.sheet.specs.Sheets.{node_count, word_count, framed, table_part, code_part}
 use Rattle.sheet.specs.Faithful.{HalfRefused}
 use Rattle.sheet.proofs.Entries.{encoded-length}
 use Rattle.sheet.proofs.Fields.{field_of_two}

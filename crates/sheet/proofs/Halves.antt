@@ -1,16 +1,14 @@
 -- The half sheet in a memory: what start leaves there, when it is recognised, and what finish makes of it.
-use Rattle.std.proofs.Common.{◌≡◌, ℕ, zero, suc, ◌+◌, ◌-◌, ◌*◌, ◌<◌, ◌≤◌, Bool, true, false, ◌&&◌, eqb, leb, List, [], ◌∷◌, ◌++◌, length, take, drop, Some, Ok, Err, sym, refl, ap, ◌∙◌, append_assoc, arith, length-append, length-take, length-take-le, drop-drop, take_at, take-add, drop_at}
+use Rattle.std.proofs.Common.{◌≡◌, ℕ, ◌+◌, ◌-◌, ◌*◌, ◌≤◌, Bool, true, false, ◌&&◌, eqb, List, [], ◌∷◌, ◌++◌, length, take, drop, sym, refl, ap, ◌∙◌, append_assoc, arith, length-take-le, drop-drop, take_at, take-add, drop_at}
 use borrow.Rule.Slice.PartMut.{put_mid}
 use Rattle.std.specs.Str.{bytes_eq}
 use Rattle.std.proofs.lemmas.Slice.Eq.{bytes_eq-Decides}
-use Rattle.std.proofs.lemmas.Bool.{and_parts, eq-eqb, eqb-true, le-leb, lt-leb}
-use Rattle.vocabulary.specs.declared.code.Word.{Word}
+use Rattle.std.proofs.lemmas.Bool.{and_parts, eq-eqb, eqb-true}
 use Rattle.vocabulary.specs.declared.node.Node.{Node}
 use Rattle.sheet.specs.declared.half.HalfSheet.{HalfSheet}
-use Rattle.sheet.specs.Layout.{Program, archive, node_bytes, table_bytes, code_bytes, header, offset_of, size_of, half_of, sheet_of}
-use Rattle.sheet.specs.Sheets.{is_half, start_verdict, finish_verdict}
-use Rattle.sheet.specs.Writing.{start_answer, start_memory, finish_answer, finish_memory}
-use Rattle.sheet.proofs.Entries.{encoded-length, tail_is}
+use Rattle.sheet.specs.Layout.{Program, archive, table_bytes, code_bytes, header, offset_of, size_of, half_of, sheet_of}
+use Rattle.sheet.specs.Sheets.{is_half}
+use Rattle.sheet.proofs.Entries.{tail_is}
 
 -- the parts from a to b, and from b on, of a list that is cut at a
 drop-front : (a b : ℕ) (xs ys : List ℕ) → a ≤ b → b ≤ length xs → drop a (take b xs ++ ys) ≡ take (b - a) (drop a xs) ++ ys

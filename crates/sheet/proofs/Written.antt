@@ -1,13 +1,12 @@
 -- A start and then a finish, in a memory with room: the sheet stands at the front of the memory.
-use Rattle.std.proofs.Common.{◌≡◌, ℕ, ◌+◌, ◌*◌, ◌≤◌, Bool, true, false, ◌&&◌, eqb, leb, List, ◌++◌, length, take, drop, Some, Ok, Err, Result, sym, refl, ap, ◌∙◌, arith, length-append, length-drop, drop-drop, take_at, drop_at}
-use Rattle.std.specs.Str.{bytes_eq}
+use Rattle.std.proofs.Common.{◌≡◌, ℕ, ◌*◌, ◌≤◌, Bool, true, false, leb, List, ◌++◌, length, take, drop, Some, Ok, Err, Result, sym, refl, ap, ◌∙◌, arith, length-append, length-drop, drop-drop, take_at, drop_at}
 use Rattle.std.proofs.lemmas.Slice.Eq.{bytes_eq-Decides}
 use Rattle.std.proofs.lemmas.Bool.{eq-eqb, le-leb, leb-true}
 use Rattle.vocabulary.specs.declared.refusal.Cause.TheVariants.{MemoryShort}
 use Rattle.vocabulary.specs.declared.refusal.Refusal.{Refusal}
 use Rattle.vocabulary.specs.Refusals.{refusal}
 use Rattle.sheet.specs.declared.half.HalfSheet.{HalfSheet}
-use Rattle.sheet.specs.Layout.{Program, node_bytes, table_bytes, header, offset_of, size_of, half_of, sheet_of}
+use Rattle.sheet.specs.Layout.{Program, node_bytes, offset_of, size_of, half_of, sheet_of}
 use Rattle.sheet.specs.Sheets.{is_half}
 use Rattle.sheet.specs.Writing.{half_sheet_of, start_answer, start_memory, finish_answer, finish_memory, archive_answer, archive_memory}
 use Rattle.sheet.proofs.Entries.{encoded-length}

@@ -1,5 +1,5 @@
 -- Which sheets are written, finished and opened, and which fault is answered first.
-use Rattle.std.specs.Prelude.{ℕ, ◌+◌, ◌*◌, Bool, true, false, cond, ◌&&◌, List, length, take, drop, Some, None, Err, Option, ◌==◌, nat_le}
+use Rattle.std.specs.Prelude.{ℕ, ◌*◌, Bool, ◌&&◌, List, length, take, drop, Some, None, Err, Option, ◌==◌, nat_le}
 use Rattle.std.specs.Result.{result_and}
 use Rattle.std.specs.Str.{bytes_eq}
 use Rattle.vocabulary.specs.declared.refusal.Cause.TheVariants.{NoProgram, MemoryShort, NotThisHalf, SheetHeader, NotTheTranslation}

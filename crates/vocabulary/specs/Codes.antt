@@ -1,5 +1,5 @@
 -- The numbers and the names of operations and instructions.
-use Rattle.std.specs.Prelude.{ℕ, Bool, true, false, cond, List, ℤ, pos, codes}
+use Rattle.std.specs.Prelude.{ℕ, true, false, List, ℤ, pos, codes}
 use Rattle.vocabulary.specs.declared.code.Operation.{Operation}
 use Rattle.vocabulary.specs.declared.code.Operation.TheVariants.{Sum, Difference, Product, Quotient, Equal, Less}
 use Rattle.vocabulary.specs.declared.code.Instruction.{Instruction}

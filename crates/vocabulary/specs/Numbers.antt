@@ -1,5 +1,5 @@
 -- The rule of numbers: signed 32 bits, and an end in place of a result that does not exist.
-use Rattle.std.specs.Prelude.{ℕ, ◌^◌, Bool, true, false, cond, ℤ, pos, negsuc, ◌+ℤ◌, ◌-ℤ◌, ◌*ℤ◌, Some, None, Ok, Err, Option, Result, ◌==◌, int_div, int_lt, nat_lt}
+use Rattle.std.specs.Prelude.{◌^◌, Bool, false, cond, ℤ, pos, negsuc, ◌+ℤ◌, ◌-ℤ◌, ◌*ℤ◌, Some, None, Ok, Err, Option, Result, ◌==◌, int_div, int_lt, nat_lt}
 use Rattle.std.specs.Int.Signed.{mag}
 use Rattle.vocabulary.specs.declared.code.Operation.{Operation}
 use Rattle.vocabulary.specs.declared.code.Operation.TheVariants.{Sum, Difference, Product, Quotient, Equal, Less}

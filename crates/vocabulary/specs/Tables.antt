@@ -1,5 +1,5 @@
 -- Tables with a stated maximum, over a list of places: the first n of them are in use.
-use Rattle.std.specs.Prelude.{◌≡◌, ℕ, zero, suc, ◌+◌, ◌-◌, ◌<◌, ◌≤◌, Bool, true, false, List, [], ◌∷◌, ◌++◌, reverse, length, take, drop, Some, None, Option, slice_set}
+use Rattle.std.specs.Prelude.{◌≡◌, ℕ, zero, suc, ◌-◌, ◌<◌, ◌≤◌, Bool, true, false, List, [], ◌∷◌, ◌++◌, reverse, length, take, drop, Some, None, Option, slice_set}
 
 -- what is in use, the newest first
 unfoldable pub stack : {X : Type 0} → List X → ℕ → List X

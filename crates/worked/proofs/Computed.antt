@@ -1,5 +1,5 @@
 -- Every example is shown by computing it.
-use Rattle.std.proofs.Common.{◌≡◌, refl}
+use Rattle.std.proofs.Common.{refl}
 use Rattle.std.specs.Fmt.{digits}
 use Rattle.language.specs.Fields.{fields_of, formed, children}
 use Rattle.language.specs.Meaning.{meaning, eval_e, eval_c, eval_d}
@@ -8,7 +8,7 @@ use Rattle.language.specs.Reading.{form_e, form_c, form_d, grown_e, grown_c, gro
 use Rattle.language.specs.Table.{nodes_in, children_in}
 use Rattle.language.specs.Verdicts.{upward}
 use Rattle.machine.specs.Machine.{taken}
-use Rattle.worked.specs.Examples.{Ends, Examples}
+use Rattle.worked.specs.Examples.{Examples}
 use Rattle.worked.specs.Refused.{RefusedExamples}
 
 pub examples : Examples

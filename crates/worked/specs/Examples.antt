@@ -1,9 +1,8 @@
 -- What small programs do, from the bytes of their tables on.
-use Rattle.std.specs.Prelude.{◌≡◌, ℕ, List, [], ◌∷◌, ◌++◌, length, pos, negsuc, Ok}
+use Rattle.std.specs.Prelude.{◌≡◌, ℕ, List, [], ◌∷◌, length, pos, negsuc, Ok}
 use Rattle.vocabulary.specs.declared.code.Instruction.TheVariants.{Num, Deref, Put, Halt as HaltWord}
 use Rattle.vocabulary.specs.declared.end.End.{End}
 use Rattle.vocabulary.specs.declared.end.End.TheVariants.{Halt, NoLocation, Overflow, ZeroDivisor, Empty, Full}
-use Rattle.vocabulary.specs.declared.item.Item.{Item}
 use Rattle.vocabulary.specs.declared.item.Item.TheVariants.{Reading}
 use Rattle.vocabulary.specs.declared.value.Plain.{Plain}
 use Rattle.vocabulary.specs.declared.value.Plain.TheVariants.{Number}
@@ -16,7 +15,7 @@ use Rattle.machine.specs.Machine.{iterate, taken, start}
 use Rattle.machine.specs.State.State.{halted}
 use Rattle.ports.specs.Lines.{line_length}
 use Rattle.sheet.specs.Faithful.{program_of}
-use Rattle.sheet.specs.Layout.{sheet_of, half_of, header, two}
+use Rattle.sheet.specs.Layout.{sheet_of, half_of}
 use Rattle.worked.specs.Programs.{number, tree_in, code_in, one_output, countdown, output_of, assign_to_number, output_read, assign_parameter}
 
 -- the rules with a price of 1 for each value, and those of a text strip

@@ -1,5 +1,5 @@
 -- Small programs as bytes of tables.
-use Rattle.std.specs.Prelude.{ℕ, List, [], ◌∷◌, ◌++◌}
+use Rattle.std.specs.Prelude.{ℕ, List, ◌∷◌, ◌++◌}
 use Rattle.language.specs.Reading.{tree_of}
 use Rattle.language.specs.Table.{nodes_of}
 use Rattle.language.specs.Translation.{program}

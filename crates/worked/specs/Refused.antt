@@ -1,5 +1,5 @@
 -- A small example of each refusal that a table, a sheet or a ramp meets.
-use Rattle.std.specs.Prelude.{◌≡◌, ℕ, false, List, [], ◌∷◌, ◌++◌, length, take, replicate, pos, Some, None, Ok, Err, slice_set}
+use Rattle.std.specs.Prelude.{◌≡◌, ℕ, false, List, [], ◌++◌, take, replicate, pos, Some, None, Ok, Err, slice_set}
 use Rattle.vocabulary.specs.declared.refusal.Cause.{Cause}
 use Rattle.vocabulary.specs.declared.refusal.Cause.TheVariants.{NoProgram, TableLength, FieldRule, ChildNotLower, ChildSort, NotOneParent, RootNotCommand, NameNotVisible, NameRole, MemoryShort, NotThisHalf, SheetHeader, NotTheTranslation}
 use Rattle.vocabulary.specs.Refusals.{refusal}

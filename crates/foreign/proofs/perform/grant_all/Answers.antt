@@ -1,4 +1,4 @@
-use Rattle.std.proofs.Common.{◌≡◌, ◌+◌, ◌-◌, ◌≤◌, is_some, Ok, sym, refl, ap, ◌∙◌, subst, arith, rules}
+use Rattle.std.proofs.Common.{◌≡◌, ◌-◌, ◌≤◌, is_some, Ok, ap, ◌∙◌, arith}
 use Rattle.vocabulary.specs.declared.refusal.Cause.TheVariants.{NoProgram}
 use Rattle.vocabulary.specs.Refusals.{unless}
 use Rattle.sequencer.specs.Calls.{program_verdict}

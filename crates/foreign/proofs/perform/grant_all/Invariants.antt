@@ -1,4 +1,4 @@
-use Rattle.std.proofs.Common.{◌≡◌, ◌+◌, ◌-◌, ◌≤◌}
+use Rattle.std.proofs.Common.{◌+◌, ◌-◌, ◌≤◌}
 use Rattle.vocabulary.specs.World.{rules}
 use Rattle.machine.specs.Seen.{between}
 use Rattle.sequencer.specs.Model.{model}

@@ -1,4 +1,4 @@
-use Rattle.std.proofs.Common.{◌^◌, ◌<◌, length, ap, arith, rules}
+use Rattle.std.proofs.Common.{length, ap, arith, rules}
 use Rattle.std.proofs.lemmas.Fmt.{decimal_digit}
 use Rattle.ports.proofs.Spelled.{digits_length, digits_some, digits_less, digits_one, digits_more}
 use Rattle.ports.proofs.text.+spell.Goals as goal

@@ -1,4 +1,4 @@
-use Rattle.std.proofs.Common.{◌≡◌, true, leb, length, sym, ap, ◌∙◌, arith}
+use Rattle.std.proofs.Common.{◌≡◌, true, leb, length, sym, arith}
 use Rattle.std.proofs.lemmas.Bool.{le-leb}
 use Rattle.sheet.specs.Layout.{archive, size_of}
 use Rattle.sheet.specs.Sheets.{is_half}

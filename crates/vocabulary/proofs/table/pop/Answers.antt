@@ -1,4 +1,4 @@
-use Rattle.std.proofs.Common.{◌≡◌, ap, ◌∙◌, rules}
+use Rattle.std.proofs.Common.{ap, ◌∙◌, rules}
 use Rattle.vocabulary.specs.Tables.{stack}
 use Rattle.vocabulary.proofs.Tabled.{stack_none, stack_read}
 use Rattle.vocabulary.proofs.table.pop.Goals as goal

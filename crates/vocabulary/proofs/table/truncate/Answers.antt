@@ -1,4 +1,4 @@
-use Rattle.std.proofs.Common.{arith, rules}
+use Rattle.std.proofs.Common.{rules}
 use Rattle.vocabulary.proofs.Tabled.{front_cut, front_uncut, stack-cut, stack_uncut}
 use Rattle.vocabulary.proofs.table.truncate.Goals as goal
 

@@ -1,4 +1,4 @@
-use Rattle.std.proofs.Common.{◌≡◌, Ok, Err, sym}
+use Rattle.std.proofs.Common.{sym}
 use Rattle.std.proofs.lemmas.Result.{err_from_is_err_and}
 use Rattle.sequencer.proofs.Holding.{same_verdict, holds_table}
 use Rattle.sequencer.proofs.program.Program.accept.Goals as goal

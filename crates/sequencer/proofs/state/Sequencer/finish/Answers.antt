@@ -1,4 +1,4 @@
-use Rattle.std.proofs.Common.{◌≡◌, ap, ◌∙◌}
+use Rattle.std.proofs.Common.{ap, ◌∙◌}
 use Rattle.sheet.specs.Writing.{finish_answer, finish_memory}
 use Rattle.sequencer.proofs.Holding.{archived}
 use Rattle.sequencer.proofs.state.Sequencer.finish.Goals as goal
