@@ -1,0 +1,21 @@
+// `workshop list`: tree and code of a table or a sheet on one page.
+use crate::stop::Stop;
+use crate::verdict::accept_file;
+use listing::listing;
+use sequencer::state::Sequencer;
+
+// Prints the page of the program that is loaded.
+pub fn print_page(rt: &HostRuntime, sequencer: &Sequencer) -> Result<(), Stop> {
+    match listing(rt.alloc(), sequencer.nodes(), sequencer.code()) {
+        Ok(page) => Ok(rt.print(page)?),
+        Err(error) => Err(Stop::Message(format!(in rt.alloc(); "{error}")?)),
+    }
+}
+
+pub fn list(rt: &HostRuntime, path: &str) -> Result<(), Stop> {
+    let mut sequencer = Sequencer::new();
+    let form = accept_file(rt, &mut sequencer, path)?;
+    let word = form.word();
+    println!(rt; "Program: {path}, a {word}\n")?;
+    print_page(rt, &sequencer)
+}

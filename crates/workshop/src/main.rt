@@ -1,0 +1,89 @@
+// The program `workshop`: checks, lists, archives and runs measuring programs. Without arguments it shows one program from
+// start to end.
+#![tactic(auto)]
+
+mod advice;
+mod archive;
+mod countdown;
+mod demonstration;
+mod files;
+mod list;
+mod options;
+mod run;
+mod sessions;
+mod sheet_advice;
+mod stop;
+mod verdict;
+mod visible;
+mod words;
+
+use anyhow::anyhow;
+use archive::write_sheet_of;
+use demonstration::demonstrate;
+use files::Form;
+use list::list;
+use run::run;
+use sessions::run_session;
+use std::env;
+use stop::{Stop, print_stop};
+use verdict::judge;
+
+const USAGE: &str = "workshop: a proved sequencer for measuring programs
+
+  workshop                       shows a countdown from 2, from its table to its end
+  workshop check TABLE           says whether a table is accepted, and if not, why
+  workshop list FILE             prints the tree and the code of a table or a sheet
+  workshop sheet TABLE SHEET     writes the archive sheet of a table
+  workshop open SHEET            says whether a sheet is accepted, and if not, why
+  workshop run FILE [OPTIONS]    runs a table or a sheet, and prints what took place
+  workshop session [--words]     carries out the session on standard input, an answer a line
+  workshop help                  prints this
+
+options of run, with what holds without them:
+  --feed 'trace'              the feed, as in a session: 'trace 5 22 fault:3 -1' or 'ramp START STEP COUNT'
+  --strip 'text 65536'        the strip, as in a session: 'text BYTES' or 'records COUNT'
+  --fuel 1000000000           the most steps
+  --session                   prints the session that does the same, and does not run
+
+a session, in which '#' begins a comment: a feed line and a strip line,
+  feed trace 5 22 fault:3 -1    or    feed ramp START STEP COUNT
+  strip text BYTES              or    strip records COUNT
+and then calls, a line each: load HEX, open HEX ('-' for no bytes), rewind, run FUEL, report
+
+The status is 0 where the command was carried out, and 1 where it was refused.";
+
+fn carry_out(rt: &HostRuntime, words: &[&str]) -> Result<(), Stop> {
+    match words {
+        [] => demonstrate(rt),
+        ["check", table] => judge(rt, *table, Form::Table),
+        ["list", file] => list(rt, *file),
+        ["sheet", table, sheet] => write_sheet_of(rt, *table, *sheet),
+        ["open", sheet] => judge(rt, *sheet, Form::Sheet),
+        ["run", file, options @ ..] => run(rt, *file, options),
+        ["session"] => run_session(rt, false),
+        ["session", "--words"] => run_session(rt, true),
+        ["help"] | ["--help"] | ["-h"] => Ok(rt.println(USAGE)?),
+        [command, ..] => {
+            let word = *command;
+            let message = format!(in rt.alloc();
+                "there is no command '{word}' with these arguments; 'workshop help' lists the commands"
+            )?;
+            Err(Stop::Message(message))
+        }
+    }
+}
+
+fn main(rt: HostRuntime) -> anyhow::Result<()> {
+    let given: Vec<String> = env::args(&rt)?.skip(1).collect(rt.alloc())?;
+    let mut words = Vec::new(rt.alloc());
+    for word in given.as_slice() {
+        words.push(word.as_str())?;
+    }
+    match carry_out(&rt, words.as_slice()) {
+        Ok(()) => Ok(()),
+        Err(stop) => {
+            print_stop(&rt, stop)?;
+            Err(anyhow!("stopped"))
+        }
+    }
+}
