@@ -1,7 +1,7 @@
 -- What stands behind the first words of a line: where its reader refuses it, nothing stands there.
 use Rattle.std.proofs.Common.{◌≡◌, ℕ, ◌^◌, ◌<◌, ◌≤◌, Bool, true, false, cond, List, [], ◌∷◌, map, length, drop, ℤ, Ok, Err, codes, Result, sym, refl, ap, ◌∙◌, subst, arith, w32, SFits}
 use Rattle.std.specs.Str.Parse.{digits_value}
-use Rattle.std.specs.List.{AllByRecursion as All}
+use Rattle.std.specs.List.{AllByRecursion}
 use Rattle.std.specs.Str.{bytes_eq}
 use Rattle.vocabulary.specs.declared.item.Item.{Item}
 use Rattle.notation.specs.declared.error.ReadError.{ReadError}
@@ -58,7 +58,7 @@ module _ (rest : List ℕ) where
       let h = p.0 in
       none (digits_value 10 (at ws 0)) (omega arith) p.1.0 (subst (Words rest) (ap (drop 2) p.1.1) w) p.1.2
 
-  pub trace_bad : ((items : List Item) → All ItemRange items → (ws : List (List ℕ)) → Words rest ws → AreItems ws items → ⊥) → Unsaid (λ ws. codes "feed" ∷ codes "trace" ∷ ws) rest
+  pub trace_bad : ((items : List Item) → AllByRecursion ItemRange items → (ws : List (List ℕ)) → Words rest ws → AreItems ws items → ⊥) → Unsaid (λ ws. codes "feed" ∷ codes "trace" ∷ ws) rest
   trace_bad none s i ws w y =
       let p = as_heard (codes "feed" ∷ codes "trace" ∷ ws) s i y in
       none (map item_in ws) p.0 p.1.0 (subst (Words rest) (ap (drop 2) p.1.1) w) p.1.2

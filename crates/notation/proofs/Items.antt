@@ -1,6 +1,6 @@
 -- The items of a trace, word by word: the words before `left` stand for the items so far, and items that stand in the line leave items that stand in `left`.
 use Rattle.std.proofs.Common.{◌≡◌, ℕ, zero, suc, ◌+◌, ◌<◌, ◌≤◌, true, false, cond, eqb, List, [], ◌∷◌, ◌++◌, length, get_or, drop, ℤ, codes, sym, refl, ap, ◌∙◌, subst, append_assoc, append-nil, arith, w32, SFits}
-use Rattle.std.specs.List.{AllByRecursion as All}
+use Rattle.std.specs.List.{AllByRecursion}
 use Rattle.std.proofs.lemmas.Bool.{cond_both, both_ways}
 use Rattle.vocabulary.specs.declared.item.Item.{Item}
 use Rattle.vocabulary.specs.declared.item.Item.TheVariants.{Reading, Fault}
@@ -28,7 +28,7 @@ pub record Listed (line left : List ℕ) (items : List Item) : Type 0 where
   pub done : List (List ℕ)
   pub so_far : AreItems done items
   pub back : (ws : List (List ℕ)) → Words left ws → Words line (done ++ ws)
-  pub on : (xs : List Item) → All ItemRange xs → (ws : List (List ℕ)) → Words line ws → AreItems ws xs → (ys : List Item) × All ItemRange ys × ((vs : List (List ℕ)) × Words left vs × AreItems vs ys)
+  pub on : (xs : List Item) → AllByRecursion ItemRange xs → (ws : List (List ℕ)) → Words line ws → AreItems ws xs → (ys : List Item) × AllByRecursion ItemRange ys × ((vs : List (List ℕ)) × Words left vs × AreItems vs ys)
 
 pub listed_none : (line : List ℕ) → Listed line line []
 listed_none line = record { done = []; so_far = tt; back = λ ws w. w; on = λ xs r ws w a. (xs, r, (ws, w, a)) }
@@ -45,12 +45,12 @@ module _ (line left : List ℕ) (items : List Item) (l : Listed line left items)
 
   module _ (some : 0 < length (word left)) where
     -- the first item that is left
-    first_left : (ys : List Item) → All ItemRange ys → (vs : List (List ℕ)) → Words left vs → AreItems vs ys → (y : Item) × (zs : List Item) × (us : List (List ℕ)) × ItemRange y × IsItem (word left) y × All ItemRange zs × Words (behind left) us × AreItems us zs
+    first_left : (ys : List Item) → AllByRecursion ItemRange ys → (vs : List (List ℕ)) → Words left vs → AreItems vs ys → (y : Item) × (zs : List Item) × (us : List (List ℕ)) × ItemRange y × IsItem (word left) y × AllByRecursion ItemRange zs × Words (behind left) us × AreItems us zs
     first_left ys r [] w a = let z : length (word left) ≡ 0 = ap length w in absurd (omega arith)
     first_left [] r (v ∷ vs) w a = absurd a
     first_left (y ∷ ys) r (v ∷ vs) w a = (y, ys, vs, r.0, subst (λ t. IsItem t y) (sym w.0) a.0, r.1, w.2, a.1)
 
-    pub listed_bad : ((x : Item) → ItemRange x → IsItem (word left) x → ⊥) → (xs : List Item) → All ItemRange xs → (ws : List (List ℕ)) → Words line ws → AreItems ws xs → ⊥
+    pub listed_bad : ((x : Item) → ItemRange x → IsItem (word left) x → ⊥) → (xs : List Item) → AllByRecursion ItemRange xs → (ws : List (List ℕ)) → Words line ws → AreItems ws xs → ⊥
     listed_bad none xs r ws w a = let p = l.on xs r ws w a in let f = first_left p.0 p.1 p.2.0 p.2.1 p.2.2 in none f.0 f.3 f.4
 
     pub listed_more : (x : Item) → IsItem (word left) x → Listed line (behind left) (items ++ x ∷ [])

@@ -1,6 +1,6 @@
 -- What is written reads back: words with spaces between them are the words of the line, and they say what they were written for.
 use Rattle.std.proofs.Common.{◌≡◌, ℕ, suc, ◌+◌, ◌/◌, ◌%◌, ◌^◌, ◌<◌, Bool, true, false, not, ◌&&◌, ltb, List, [], ◌∷◌, ◌++◌, map, length, get_or, ℤ, pos, negsuc, codes, decimal, sym, refl, ap, ◌∙◌, subst, arith, w32, SFits}
-use Rattle.std.specs.List.{flat_map, AllByRecursion as All}
+use Rattle.std.specs.List.{flat_map, AllByRecursion}
 use Rattle.std.specs.Str.Parse.{starts_with_minus}
 use Rattle.std.specs.Fmt.{signed_decimal}
 use Rattle.std.proofs.lemmas.Fmt.{decimal_is_IsNumeral, decimal_by_steps, decimal_nonempty}
@@ -16,7 +16,7 @@ use Rattle.notation.specs.Words.{blank, solid, trimmed, front, rest, word, behin
 
 -- each byte is above those of blanks and '#'
 abbrev High : List ℕ → Type 0
-High w = All (λ b. 35 < b) w
+High w = AllByRecursion (λ b. 35 < b) w
 
 abbrev Proper : List ℕ → Type 0
 Proper w = (0 < length w) × High w
@@ -55,13 +55,13 @@ joined_ends : (ws : List (List ℕ)) → Ends (flat_map (λ v. 32 ∷ v) ws)
 joined_ends [] = tt
 joined_ends (w ∷ ws) = refl
 
-words-joined : (ws : List (List ℕ)) → All Proper ws → Words (flat_map (λ v. 32 ∷ v) ws) ws
+words-joined : (ws : List (List ℕ)) → AllByRecursion Proper ws → Words (flat_map (λ v. 32 ∷ v) ws) ws
 words-joined [] h = refl
 words-joined (w ∷ ws) h =
     let p = first_word w (flat_map (λ v. 32 ∷ v) ws) h.0 (joined_ends ws) in
     (p.0, h.0.0, subst (λ t. Words t ws) (sym p.1) (words-joined ws h.1))
 
-words-spaced : (ws : List (List ℕ)) → All Proper ws → Words (spaced ws) ws
+words-spaced : (ws : List (List ℕ)) → AllByRecursion Proper ws → Words (spaced ws) ws
 words-spaced [] h = refl
 words-spaced (w ∷ ws) h =
     let p = first_word w (flat_map (λ v. 32 ∷ v) ws) h.0 (joined_ends ws) in
@@ -95,7 +95,7 @@ proper_item (Fault fault) h =
     let k = h.1 in
     (omega arith, (omega arith, (omega arith, (omega arith, (omega arith, (omega arith, (omega arith, high-decimal fault.code (omega arith))))))))
 
-proper_items : (xs : List Item) → All ItemRange xs → All Proper (map item_word xs)
+proper_items : (xs : List Item) → AllByRecursion ItemRange xs → AllByRecursion Proper (map item_word xs)
 proper_items [] h = tt
 proper_items (x ∷ xs) h = (proper_item x h.0, proper_items xs h.1)
 
@@ -111,7 +111,7 @@ high-tested (b ∷ bs) e = let p = and_parts _ _ e in (ltb-true 35 b p.0, high-t
 known : (w : List ℕ) → (ltb 0 (length w) && high w) ≡ true → Proper w
 known w e = let p = and_parts _ _ e in (ltb-true 0 (length w) p.0, high-tested w p.1)
 
-proper_words : (s : Spoken) → InRange s → All Proper (words_of s)
+proper_words : (s : Spoken) → InRange s → AllByRecursion Proper (words_of s)
 proper_words nothing h = tt
 proper_words (trace_feed items) h = (known (codes "feed") refl, (known (codes "trace") refl, proper_items items h))
 proper_words (ramp_feed start step count) h =
@@ -151,7 +151,7 @@ item_written : (x : Item) → ItemRange x → IsItem (item_word x) x
 item_written (Reading z) h = signed_written z h
 item_written (Fault fault) h = let k = h.1 in (decimal fault.code, refl, decimal_is_IsNumeral fault.code (omega arith))
 
-items-written : (xs : List Item) → All ItemRange xs → AreItems (map item_word xs) xs
+items-written : (xs : List Item) → AllByRecursion ItemRange xs → AreItems (map item_word xs) xs
 items-written [] h = tt
 items-written (x ∷ xs) h = (item_written x h.0, items-written xs h.1)
 

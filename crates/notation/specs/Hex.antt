@@ -1,6 +1,6 @@
 -- Bytes as hex digits, two a byte.
 use Rattle.std.specs.Prelude.{ℕ, ◌+◌, ◌/◌, ◌%◌, ◌<◌, cond, List, [], ◌∷◌, codes, nat_lt}
-use Rattle.std.specs.List.{AllByRecursion as All}
+use Rattle.std.specs.List.{AllByRecursion}
 
 -- 0 to 9, then a to f
 abbrev pub hex_digit : ℕ → ℕ
@@ -18,4 +18,4 @@ hex_text (b ∷ bs) = hex_digits (b ∷ bs)
 
 -- numbers that are bytes
 abbrev pub Bytes : List ℕ → Type 0
-Bytes bs = All (λ b. b < 256) bs
+Bytes bs = AllByRecursion (λ b. b < 256) bs

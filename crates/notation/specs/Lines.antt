@@ -1,7 +1,7 @@
 -- What a line says: its text as it is written, and which lines say it.
 use Rattle.std.specs.Prelude.{◌≡◌, ℕ, ◌^◌, ◌<◌, List, [], ◌∷◌, ◌++◌, map, ℤ, vec_items, codes, decimal, Result, MatchResult, FitsSigned, ◌≢◌}
 use Rattle.std.specs.Int.{w32}
-use Rattle.std.specs.List.{flat_map, AllByRecursion as All}
+use Rattle.std.specs.List.{flat_map, AllByRecursion}
 use Rattle.std.specs.Fmt.{signed_decimal}
 use Rattle.vocabulary.specs.declared.item.Item.{Item}
 use Rattle.vocabulary.specs.declared.item.Item.TheVariants.{Reading, Fault}
@@ -63,7 +63,7 @@ ItemRange (Fault fault) = (0 < fault.code) × (fault.code < 256)
 -- the ranges of what is said
 abbrev pub InRange : Spoken → Type 0
 InRange nothing = Unit {0}
-InRange (trace_feed items) = All ItemRange items
+InRange (trace_feed items) = AllByRecursion ItemRange items
 InRange (ramp_feed start step count) = FitsSigned w32 start × FitsSigned w32 step × (count < 2 ^ 16)
 InRange (record_strip n) = n < 2 ^ 64
 InRange (text_strip n) = n < 2 ^ 64

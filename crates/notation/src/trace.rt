@@ -1,6 +1,6 @@
 // The items of a trace, each a word: a reading, or a fault as `fault:3`.
 ghost use Rattle.std.specs.Prelude.{◌≡◌, ℕ, List, ◌++◌, drop, codes, Decides, MatchResult, ◌≢◌};
-ghost use Rattle.std.specs.List.{AllByRecursion as All};
+ghost use Rattle.std.specs.List.{AllByRecursion};
 ghost use Rattle.vocabulary.specs.declared.item.Item.{Item};
 ghost use Rattle.ports.specs.Traces.{item_of, items_of};
 ghost use Rattle.notation.specs.declared.error.ReadError.TheVariants.{Memory};
@@ -38,7 +38,7 @@ fn read_item(word: &[u8], number: usize) -> Result<Record, ReadError>
 }
 
 pub fn read_trace(heap: Global, line: &[u8]) -> Result<Vec<Record>, ReadError>
-    ensures { MatchResult result (λ records. (ws : List (List ℕ)) × Words line.now ws × AreItems ws (items_of records.items)) (λ e. (e ≢ Memory) → (items : List Item) → All ItemRange items → (ws : List (List ℕ)) → Words line.now ws → AreItems ws items → ⊥) }
+    ensures { MatchResult result (λ records. (ws : List (List ℕ)) × Words line.now ws × AreItems ws (items_of records.items)) (λ e. (e ≢ Memory) → (items : List Item) → AllByRecursion ItemRange items → (ws : List (List ℕ)) → Words line.now ws → AreItems ws items → ⊥) }
 {
     let mut records = Vec::new(heap);
     let mut left = line;

@@ -1,7 +1,7 @@
 -- Whatever is called: the sequencer stays at the take that goes on. So every history of calls that do what they do by
 -- themselves keeps the law of takes, and its reports are true.
 use Rattle.std.proofs.Common.{◌≡◌, ℕ, ◌+◌, ◌/◌, ◌≤◌, false, List, [], ◌∷◌, length, is_some, Some, None, Ok, Err, Option, sym, refl, ap, ◌∙◌, subst, arith}
-use Rattle.std.specs.List.{AllByRecursion as All}
+use Rattle.std.specs.List.{AllByRecursion}
 use Rattle.std.proofs.ByRecursion.{All-append}
 use Rattle.vocabulary.specs.declared.refusal.Cause.TheVariants.{NoProgram}
 use Rattle.vocabulary.specs.declared.refusal.Refusal.{Refusal}
@@ -165,12 +165,12 @@ module _ (R : Rules) (limit : 512 ≤ R.limit) where
       (λ v s. goes-reported current m m' o o' g v s)
 
   module _ (agreement : Agreement) where
-    law_on : (current : Option Take) (m : Model) (o : Ports) → Going R current m o → All (Law R) (listed current)
+    law_on : (current : Option Take) (m : Model) (o : Ports) → Going R current m o → AllByRecursion (Law R) (listed current)
     law_on None m o g = tt
     law_on (Some t) m o g =
         (law R t m (agreement R t.tree (world_of t.start) g.1.named g.1.small refl) g.1, tt)
 
-    law-closed : (e : Event) (current : Option Take) (m : Model) (o : Ports) → Going R current m o → All (Law R) (closed e current)
+    law-closed : (e : Event) (current : Option Take) (m : Model) (o : Ports) → Going R current m o → AllByRecursion (Law R) (closed e current)
     law-closed (begins tree) current m o g = law_on current m o g
     law-closed begins_again current m o g = law_on current m o g
     law-closed (grants fuel r) current m o g = tt
@@ -178,7 +178,7 @@ module _ (R : Rules) (limit : 512 ≤ R.limit) where
     law-closed refused current m o g = tt
 
     pub keeps : (ms : List Moment) (current : Option Take) (m last : Model) (o exit : Ports) → Going R current m o →
-        Chained o ms exit → OneByOne R m ms last → All (Law R) (takes_from current ms) × TrueFrom current ms
+        Chained o ms exit → OneByOne R m ms last → AllByRecursion (Law R) (takes_from current ms) × TrueFrom current ms
     keeps [] current m last o exit g c h = (law_on current m o g, tt)
     keeps (x ∷ ms) current m last o exit g c h =
         let g' : Going R current m x.before = subst (Going R current m) (sym c.0) g in

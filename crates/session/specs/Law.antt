@@ -1,6 +1,6 @@
 -- The law of takes: whatever is called, in whatever order, every take does what its tree means.
 use Rattle.std.specs.Prelude.{◌≡◌, ℕ, ◌+◌, ◌*◌, ◌≤◌, List, [], map, Some, None}
-use Rattle.std.specs.List.{AllByRecursion as All}
+use Rattle.std.specs.List.{AllByRecursion}
 use Rattle.vocabulary.specs.declared.end.End.{End}
 use Rattle.vocabulary.specs.World.{World, world, Rules}
 use Rattle.language.specs.Meaning.{Course, meaning}
@@ -55,6 +55,6 @@ pub record Session (R : Rules) (calls : List Call) (answers : List Answer) (entr
   pub last : Model
   pub exact : OneByOne R fresh history last
   -- every take keeps the law
-  pub lawful : All (Law R) (takes history)
+  pub lawful : AllByRecursion (Law R) (takes history)
   -- and every report is true
   pub truthful : TrueReports history

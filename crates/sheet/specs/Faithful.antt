@@ -1,6 +1,6 @@
 -- What a sheet stands for: one accepted table, which opening gives back.
 use Rattle.std.specs.Prelude.{◌≡◌, ℕ, ◌<◌, ◌≤◌, List, ◌++◌, length, take, Some, Ok, Err}
-use Rattle.std.specs.List.{AllByRecursion as All}
+use Rattle.std.specs.List.{AllByRecursion}
 use Rattle.vocabulary.specs.declared.refusal.Cause.TheVariants.{SheetHeader}
 use Rattle.vocabulary.specs.Refusals.{refusal}
 use Rattle.language.specs.Reading.{tree_of}
@@ -13,7 +13,7 @@ use Rattle.sheet.specs.Writing.{half_sheet_of, start_memory, finish_answer, fini
 
 -- every number is a byte
 abbrev pub Bytes : List ℕ → Type 0
-Bytes bytes = All (λ byte. byte < 256) bytes
+Bytes bytes = AllByRecursion (λ byte. byte < 256) bytes
 
 -- the nodes of a table, with its translation
 abbrev pub program_of : List ℕ → Program
