@@ -1,4 +1,4 @@
-/* The sequencer of Small for C. Link target/staticlib/libforeign.a (`rt staticlib foreign`); it needs memcpy and memset of
+/* The sequencer of Small for C. Link crates/foreign/out/libforeign.a (`rt lib` in crates/foreign); it needs memcpy and memset of
    the C library and nothing else, and takes no heap.
 
    A buffer is a pointer and a length, in that order; the length counts elements. A pointer is never null and is aligned for its

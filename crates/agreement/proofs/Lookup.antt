@@ -105,11 +105,11 @@ module _ (prog : List Word) (bs : List Binding) (m : List Bound) (d : ℕ) (f : 
       go (function_body y t) is role match inside = let z : ◌≡◌ {A = ℕ} 0 1 = cc in absurd (omega arith)
 
   -- what is denoted in the role of a routine is a body of its sort
-  abbrev Body_of : {T : Type 0} → Sort T → (ℕ → T → Denoted) → Role → Type 0
-  Body_of {T} σ routine role = (sc : List Entry) (bound : Bound) (th : Denoted) → role_of th ≡ role → Match prog sc th bound →
+  abbrev BodyOf : {T : Type 0} → Sort T → (ℕ → T → Denoted) → Role → Type 0
+  BodyOf {T} σ routine role = (sc : List Entry) (bound : Bound) (th : Denoted) → role_of th ≡ role → Match prog sc th bound →
       (y : ℕ) × (t : T) × (th ≡ routine y t) × (weight th ≡ σ.size t) × BodyAt σ prog t (scope_inside y sc) bound
 
-  routine_at : {T : Type 0} (σ : Sort T) (routine : ℕ → T → Denoted) (role : Role) → Body_of σ routine role → Resolved prog bs m d role f → RoutineAt σ routine
+  routine_at : {T : Type 0} (σ : Sort T) (routine : ℕ → T → Denoted) (role : Role) → BodyOf σ routine role → Resolved prog bs m d role f → RoutineAt σ routine
   routine_at σ routine role body_of q =
       let x = body_of q.scope q.bound q.denoted q.role q.match in let e = x.3 in let fewer = q.fewer in record {
         parameter = x.0;
@@ -128,7 +128,7 @@ module _ (prog : List Word) (bs : List Binding) (m : List Bound) (d : ℕ) (f : 
   pub procedure_at : Resolved prog bs m d Procedure f → RoutineAt commands procedure_body
   procedure_at q = routine_at commands procedure_body Procedure body_of q
     where
-      body_of : Body_of commands procedure_body Procedure
+      body_of : BodyOf commands procedure_body Procedure
       body_of sc bound (denotes v) role match = let z : ◌≡◌ {A = ℕ} 0 1 = cc in absurd (omega arith)
       body_of sc bound (procedure_body y t) role match = (y, t, refl, refl, match)
       body_of sc bound (function_body y t) role match = let z : ◌≡◌ {A = ℕ} 0 1 = cc in absurd (omega arith)
@@ -136,7 +136,7 @@ module _ (prog : List Word) (bs : List Binding) (m : List Bound) (d : ℕ) (f : 
   pub function_at : Resolved prog bs m d Function f → RoutineAt expressions function_body
   function_at q = routine_at expressions function_body Function body_of q
     where
-      body_of : Body_of expressions function_body Function
+      body_of : BodyOf expressions function_body Function
       body_of sc bound (denotes v) role match = let z : ◌≡◌ {A = ℕ} 0 1 = cc in absurd (omega arith)
       body_of sc bound (procedure_body y t) role match = let z : ◌≡◌ {A = ℕ} 0 1 = cc in absurd (omega arith)
       body_of sc bound (function_body y t) role match = (y, t, refl, refl, match)

@@ -10,6 +10,7 @@ use anyhow::anyhow;
 use demonstration::demonstrate;
 use sessions::run_session;
 use std::env;
+use std::process::ExitCode;
 
 const USAGE: &str = "usage:
   small                    shows a countdown from 2, from its table to its end
@@ -36,11 +37,15 @@ fn command(rt: &HostRuntime, words: &[&str]) -> anyhow::Result<()> {
     }
 }
 
-fn main(rt: HostRuntime) -> anyhow::Result<()> {
+// What stopped a command was said where it was met, so an error gives a status and no second message.
+fn main(rt: HostRuntime) -> anyhow::Result<ExitCode> {
     let given: Vec<String> = env::args(&rt)?.skip(1).collect(rt.alloc())?;
     let mut words = Vec::new(rt.alloc());
     for word in given.as_slice() {
         words.push(word.as_str())?;
     }
-    command(&rt, words.as_slice())
+    match command(&rt, words.as_slice()) {
+        Ok(()) => Ok(ExitCode::SUCCESS),
+        Err(_said) => Ok(ExitCode::FAILURE),
+    }
 }

@@ -17,7 +17,6 @@ mod verdict;
 mod visible;
 mod words;
 
-use anyhow::anyhow;
 use archive::write_sheet_of;
 use demonstration::demonstrate;
 use files::Form;
@@ -25,6 +24,7 @@ use list::list;
 use run::run;
 use sessions::run_session;
 use std::env;
+use std::process::ExitCode;
 use stop::{Stop, print_stop};
 use verdict::judge;
 
@@ -73,17 +73,17 @@ fn carry_out(rt: &HostRuntime, words: &[&str]) -> Result<(), Stop> {
     }
 }
 
-fn main(rt: HostRuntime) -> anyhow::Result<()> {
+fn main(rt: HostRuntime) -> anyhow::Result<ExitCode> {
     let given: Vec<String> = env::args(&rt)?.skip(1).collect(rt.alloc())?;
     let mut words = Vec::new(rt.alloc());
     for word in given.as_slice() {
         words.push(word.as_str())?;
     }
     match carry_out(&rt, words.as_slice()) {
-        Ok(()) => Ok(()),
+        Ok(()) => Ok(ExitCode::SUCCESS),
         Err(stop) => {
             print_stop(&rt, stop)?;
-            Err(anyhow!("stopped"))
+            Ok(ExitCode::FAILURE)
         }
     }
 }
