@@ -1,7 +1,7 @@
 #!/usr/bin/env python3
 """Respells this repository's own definitions and lemmas as today's Rattle spells them: words in snake case, a dash only where it joins two names.
 
-usage: python3 tools/respell.py [ROOT]    once, after /opt/rattle/port/port.py
+usage: python3 tools/respell.py [ROOT]    once, after /opt/rattle/port/port.py; where no old name stands it changes nothing
 
 respell.txt, beside this script, has the pairs of names. In .antt files each name is turned wherever it stands as a word or as a field;
 in .rt files only in ghost lines and clauses. Functions of src/, strings and exported names keep theirs.
@@ -47,9 +47,25 @@ def rust(text, names):
     return "\n".join(out)
 
 
+def is_older(root, names):
+    """Whether a definition in camel case still stands: a second run would turn some names again."""
+    camel = {a for a in names if re.fullmatch(r"[a-z][a-z0-9]*[A-Z]\w*", a)}
+    for folder, dirs, files in os.walk(os.path.join(root, "crates")):
+        dirs[:] = [d for d in dirs if d != "out"]
+        for name in files:
+            if name.endswith(".antt"):
+                with open(os.path.join(folder, name), encoding="utf-8") as f:
+                    if camel & set(WORD.findall(f.read())):
+                        return True
+    return False
+
+
 def main(argv):
     root = argv[0] if argv else "."
     names = pairs()
+    if not is_older(root, names):
+        print("respell: no old name stands here, nothing to do")
+        return
     for crate in sorted(os.listdir(os.path.join(root, "crates"))):
         own = {a: b for a, b in names.items() if ONLY_IN.get(a, crate) == crate}
         for folder, dirs, files in os.walk(os.path.join(root, "crates", crate)):

@@ -132,7 +132,7 @@ module _ (S : Setup) (g : ℕ) (sim_e : SimE S g) where
               },
             ))
 
-    -- both calls: the argument, CALL, the body under its own scene, and RET. `asRoutine` is what the source makes of what it finds
+    -- both calls: the argument, CALL, the body under its own scene, and RET. `as_routine` is what the source makes of what it finds
     pub calling : (as_routine : Found → (ℕ → T → List Binding → Outcome A) → Outcome A) (routine : ℕ → T → Denoted) →
         ((y : ℕ) (t : T) (rest : List Binding) (next : ℕ → T → List Binding → Outcome A) → as_routine (named (routine y t) rest) next ≡ next y t rest) →
         (nd f : ℕ) (a : Expression) (role : Role) (n : Names Γ.scope f role) (F : Found) → RoutineAt S.code Γ.bindings Γ.environment n.0 F σ routine →

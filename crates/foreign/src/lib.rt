@@ -1,4 +1,4 @@
-// The calls of the sequencer for C and Rust (`rt staticlib foreign`; include/small.h declares them).
+// The calls of the sequencer for C and Rust (`rt lib`; include/small.h declares them).
 //
 // Pinned by the contracts of `calls`, for every input: which refusal and which node a check, an opening or a sheet answers, and
 // every byte of the memory after a sheet was written; of a run the whole outcome (refusal, end, node, code, steps, samples left,

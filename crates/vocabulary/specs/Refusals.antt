@@ -27,7 +27,7 @@ cause_number RampRange = 16
 abbrev pub refusal : Cause → ℕ → Refusal
 refusal c n = record { cause = c; node = n }
 
--- what a check answers: accepted, or a refusal; two checks in a row answer the first refusal (`andOther` of the library)
+-- what a check answers: accepted, or a refusal; two checks in a row answer the first refusal (`result_and` of the library)
 abbrev pub Verdict : Type 0
 Verdict = Result (Unit {0}) Refusal
 
