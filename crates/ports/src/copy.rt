@@ -11,7 +11,7 @@ use vocabulary::item::{Fault, Item};
 use vocabulary::value::Plain;
 
 // Why a copy stopped before it had copied as many readings as were asked for.
-#[derive(Clone, Copy)]
+#[derive(Clone, Copy, PartialEq, Eq, Debug)]
 pub enum Stop {
     // no item was left
     Empty,
