@@ -1,10 +1,10 @@
 -- The digits of a number, written from the last to the first, and the sign and the end about them.
-use Rattle.std.proofs.Common.{◌≡◌, ℕ, ◌+◌, ◌-◌, ◌/◌, ◌%◌, ◌^◌, ◌<◌, ◌≤◌, true, false, List, [], ◌∷◌, ◌++◌, length, drop, set, ℤ, pos, negsuc, nat_abs, decimal, sym, refl, ap, ◌∙◌, append_assoc, arith}
+use Rattle.std.proofs.Common.{◌≡◌, ℕ, ◌+◌, ◌-◌, ◌/◌, ◌%◌, ◌^◌, ◌<◌, ◌≤◌, true, false, List, [], ◌∷◌, ◌++◌, length, take, drop, set, ℤ, pos, negsuc, nat_abs, decimal, sym, refl, ap, ◌∙◌, append_assoc, arith}
 use lib.Signed.{lt_z}
 use Rattle.std.proofs.lemmas.Bool.Decides.{nat_tests}
 use Rattle.std.specs.Fmt.{signed_decimal}
 use Rattle.std.proofs.lemmas.Fmt.{decimal_nonempty, decimal_digit, decimal_step, length-decimal-le}
-use Rattle.std.proofs.lemmas.List.{drop-set, length_push, drop_all}
+use Rattle.std.proofs.lemmas.List.{drop-set, length_push, drop_all, take_all, length-drop}
 
 below_64 : (n : ℕ) → n < 2 ^ 32 → n < 2 ^ 64
 below_64 n h = omega arith
@@ -57,3 +57,7 @@ line_plus z n r buffer out sign e l h =
 pub line_minus : (z : ℤ) (n r : ℕ) (buffer out : List ℕ) → lt_z z (pos 0) ≡ true → n ≡ nat_abs z → length buffer ≡ 12 → 0 < r → r ≤ length out → drop r out ≡ decimal n ++ drop 11 (set buffer 11 10) → drop (r - 1) (set out (r - 1) 45) ≡ signed_decimal z ++ (10 ∷ [])
 line_minus z n r buffer out sign e l some room h =
     drop_digit out r 45 some room ∙ ap (λ bs. 45 ∷ bs) (h ∙ ap (λ bs. decimal n ++ bs) (ended buffer l) ∙ ap (λ k. decimal k ++ (10 ∷ [])) e) ∙ sym (ap (λ bs. bs ++ (10 ∷ [])) (minus_signed z sign))
+
+-- a line that ends where its buffer ends is all of the buffer from its start
+pub lent_line : (buffer line : List ℕ) (r : ℕ) → length buffer ≡ 12 → drop r buffer ≡ line → take (12 - r) (drop r buffer) ≡ line
+lent_line buffer line r l e = let d = length-drop r buffer in take_all (12 - r) (drop r buffer) (omega arith) ∙ e
