@@ -133,9 +133,7 @@ module _ (R : Rules) (k j : ℕ) (first : Model) (before after : Sequencer) (fro
       go (Ok report) a = granted_more R k first (model before) from o g j n (model after) o' a.1 e
       go (Err refusal) a = granted-refused R k n first before after from o o' g (refused-ended (model before) j refusal there few enough a.0) (omega arith) a.1 a.2
 
-  pub counted : RunAnswer R j before after o o' r → (model after).granted ≤ (model before).granted + j
-  counted a = go r a
-    where
-      go : (r : Result Report Refusal) → RunAnswer R j before after o o' r → (model after).granted ≤ (model before).granted + j
-      go (Ok report) a = let s = a.1.granted in omega arith
-      go (Err refusal) a = let s = ap (λ x. (model x).granted) a.1 in omega arith
+-- a run counts no more than its fuel
+pub counted : (R : Rules) (j : ℕ) (before after : Sequencer) (o o' : Ports) (r : Result Report Refusal) → RunAnswer R j before after o o' r → (model after).granted ≤ (model before).granted + j
+counted R j before after o o' (Ok report) a = let s = a.1.granted in omega arith
+counted R j before after o o' (Err refusal) a = let s = ap (λ x. (model x).granted) a.1 in omega arith

@@ -1,4 +1,7 @@
-use Rattle.std.proofs.Common.{◌≡◌, ◌+◌, ◌*◌, ◌/◌, ◌≤◌, ap, ◌∙◌, arith}
+use Rattle.std.proofs.Common.{◌+◌, ◌*◌, ◌%◌, arith}
+use Rattle.vocabulary.specs.World.{rules}
+use Rattle.machine.specs.Seen.{between}
+use Rattle.sequencer.specs.Model.{model}
 use Rattle.foreign.proofs.Granting.{granted_none, granted_run, counted}
 use Rattle.foreign.proofs.perform.grant_all.Goals as goal
 
@@ -6,7 +9,31 @@ pub loop-run-init : goal.loop-run-init
 loop-run-init g c = (granted_none _ (0 * 1000000) _ _ (omega arith), omega arith, g.S.Strip.stays _)
 
 pub loop-run-preserved : goal.loop-run-preserved
-loop-run-preserved g c = let i = c.loop-run.invariant in ?
+loop-run-preserved g c =
+    let l = c.loop-run in
+    let i = l.invariant in
+    let count = i.1 in
+    let most = c.requires.enough in
+    let f = between g.F.Feed g.S.Strip in
+    let r = rules g.S.Strip.price in
+    let more = counted r 1000000 l.sequencer c.run.new.self (f l.feed l.strip) (f c.run.new.feed c.run.new.strip) c.run.result c.run.ensures.answer in (
+      granted_run r (l._run * 1000000) 1000000 (model c.args.sequencer.now) l.sequencer c.run.new.self (f c.args.feed.now c.args.strip.now) (f l.feed l.strip) (f c.run.new.feed c.run.new.strip) c.run.result
+          i.0 c.requires.program (omega arith) (omega arith) ((l._run + 1) * 1000000) c.run.ensures.answer (omega arith),
+      omega arith,
+      g.S.Strip.goes _ _ _ i.2 c.run.ensures.kept,
+    )
 
 pub returns : goal.returns
-returns g c = ?
+returns g c =
+    let l = c.loop-run in
+    let i = l.invariant in
+    let count = i.1 in
+    let most = c.requires.enough in
+    let f = between g.F.Feed g.S.Strip in
+    let r = rules g.S.Strip.price in
+    record {
+      granted =
+          granted_run r (l._run * 1000000) (c.args.fuel % 1000000) (model c.args.sequencer.now) l.sequencer c.run-2.new.self (f c.args.feed.now c.args.strip.now) (f l.feed l.strip) (f c.run-2.new.feed c.run-2.new.strip) c.run-2.result
+          i.0 c.requires.program (omega arith) (omega arith) c.args.fuel c.run-2.ensures.answer (omega arith);
+      kept = g.S.Strip.goes _ _ _ i.2 c.run-2.ensures.kept;
+    }
