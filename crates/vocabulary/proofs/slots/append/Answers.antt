@@ -1,6 +1,6 @@
 use Rattle.std.proofs.Common.{refl, rules}
 use Rattle.vocabulary.proofs.Tabled.{stack_push, stack-length, front_length, front-push}
-use Rattle.vocabulary.proofs.table.append.Goals as goal
+use Rattle.vocabulary.proofs.slots.append.Goals as goal
 
 pub returns-then-count-items : goal.returns-then-count-items
 returns-then-count-items g c =

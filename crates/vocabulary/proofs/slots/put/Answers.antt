@@ -1,6 +1,6 @@
 use Rattle.std.proofs.Common.{refl, rules}
 use Rattle.vocabulary.proofs.Tabled.{front-set, front_length}
-use Rattle.vocabulary.proofs.table.put.Goals as goal
+use Rattle.vocabulary.proofs.slots.put.Goals as goal
 
 pub returns-then-i-count : goal.returns-then-i-count
 returns-then-i-count g c =

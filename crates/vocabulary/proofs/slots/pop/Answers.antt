@@ -1,7 +1,7 @@
 use Rattle.std.proofs.Common.{ap, ◌∙◌, rules}
 use Rattle.vocabulary.specs.Tables.{stack}
 use Rattle.vocabulary.proofs.Tabled.{stack_none, stack_read}
-use Rattle.vocabulary.proofs.table.pop.Goals as goal
+use Rattle.vocabulary.proofs.slots.pop.Goals as goal
 
 pub returns-then-count-eq0 : goal.returns-then-count-eq0
 returns-then-count-eq0 g c =
