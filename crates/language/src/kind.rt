@@ -67,6 +67,20 @@ pub struct Fields {
     pub c: Rule,
 }
 
+// A field of a node: its rule, and what it holds.
+#[derive(Clone, Copy, PartialEq, Eq, Debug)]
+pub struct Field {
+    pub rule: Rule,
+    pub value: u16,
+}
+
+// A child: the sort that is wanted, and the number of the node.
+#[derive(Clone, Copy, PartialEq, Eq, Debug)]
+pub struct ChildField {
+    pub wanted: Sort,
+    pub number: u16,
+}
+
 impl TryFrom<u8> for Kind {
     type Error = UnknownKind;
 

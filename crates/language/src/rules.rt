@@ -1,7 +1,9 @@
 ghost use Rattle.std.specs.Prelude.{◌≡◌};
-ghost use Rattle.language.specs.Fields.{is_of, fields_of, admits};
+ghost use Rattle.language.specs.Fields.{is_of, fields_of, fields_in, admits, children};
 
-use crate::kind::{Fields, Kind, Rule, Sort};
+use crate::kind::{ChildField, Field, Fields, Kind, Rule, Sort};
+use vocabulary::node::Node;
+use vocabulary::table::Table;
 
 // Whether a kind is of a sort.
 pub fn is_of(sort: Sort, kind: u8) -> bool
@@ -22,6 +24,63 @@ pub fn fields_of(kind: u8) -> Option<Fields>
         return None;
     };
     Some(kind.fields())
+}
+
+// The children of a node, a before b before c; none where its kind is unknown.
+pub fn children(node: Node) -> Table<ChildField, 3>
+    ensures { result ≡ children node }
+{
+    let mut children = Table::new(ChildField {
+        wanted: Sort::Expression,
+        number: 0,
+    });
+    if let Ok(kind) = Kind::try_from(node.kind) {
+        let fields = kind.fields().of(node);
+        for field in &fields[1..] {
+            if let Rule::Child(wanted) = field.rule {
+                children.push(ChildField {
+                    wanted,
+                    number: field.value,
+                });
+            }
+        }
+    }
+    children
+}
+
+impl Fields {
+    // The tag and the fields a, b and c of a node, each with its rule.
+    pub fn of(self, node: Node) -> [Field; 4]
+        ensures { result ≡ fields_in self node }
+    {
+        [
+            Field {
+                rule: self.tag,
+                value: u16::from(node.tag),
+            },
+            Field {
+                rule: self.a,
+                value: node.a,
+            },
+            Field {
+                rule: self.b,
+                value: node.b,
+            },
+            Field {
+                rule: self.c,
+                value: node.c,
+            },
+        ]
+    }
+}
+
+impl Field {
+    // Whether it may hold its value, but for what is asked of a child.
+    pub fn keeps_rule(self) -> bool
+        ensures { result ≡ admits self.rule self.value }
+    {
+        self.rule.admits(self.value)
+    }
 }
 
 impl Rule {
