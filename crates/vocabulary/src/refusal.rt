@@ -1,6 +1,7 @@
 ghost use Rattle.std.specs.Prelude.{◌≡◌};
 ghost use Rattle.vocabulary.specs.Refusals.{cause_number, refusal};
 
+use std::error::Error;
 use std::fmt;
 
 // Why a call is refused, in the order of the numbers 1 to 16.
@@ -109,3 +110,5 @@ impl fmt::Display for Refusal {
         }
     }
 }
+
+impl Error for Refusal {}
