@@ -7,7 +7,7 @@ ghost use Rattle.machine.specs.State.Spent.{spent};
 use crate::state::Machine;
 use crate::tables::Stop;
 use ports::feed::Feed;
-use ports::strip::{Placed, Strip};
+use ports::strip::Strip;
 use vocabulary::end::End;
 use vocabulary::item::Item;
 use vocabulary::value::{Plain, Value};
@@ -31,9 +31,7 @@ impl Machine {
         let Value::Plain(plain) = self.pop()? else {
             return Err(Stop::Stuck);
         };
-        match strip.put(plain) {
-            Placed::Done => Ok(()),
-            Placed::Full => Err(End::Full.into()),
-        }
+        strip.put(plain)?;
+        Ok(())
     }
 }

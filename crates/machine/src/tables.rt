@@ -1,6 +1,8 @@
 ghost use Rattle.std.specs.Prelude.{◌≡◌};
+ghost use Rattle.vocabulary.specs.declared.end.End.TheVariants.{Full};
 ghost use Rattle.machine.specs.declared.tables.Stop.TheVariants.{Ended, Stuck};
 
+use ports::strip::StripFull;
 use vocabulary::end::End;
 use vocabulary::table::{NotInUse, TableFull};
 use vocabulary::value::Value;
@@ -57,6 +59,14 @@ impl From<NotInUse> for Stop {
 
     fn from(_place: NotInUse) -> Stop {
         Stop::Stuck
+    }
+}
+
+impl From<StripFull> for Stop {
+    ghost from_gives = { λ _ stop. stop ≡ Ended Full };
+
+    fn from(_full: StripFull) -> Stop {
+        Stop::Ended(End::Full)
     }
 }
 
