@@ -190,10 +190,8 @@ linked_more es ds c q h l =
     let z : reverse ds ≡ c ∷ reverse es = ap reverse q ∙ reverse-append es (c ∷ []) in
     rw z (linked-new c (reverse es) (omega arith) l)
 
-pub among_more : (es ds : List Entry) (c : Entry) (k : ℕ) → ds ≡ es ++ (c ∷ []) → k ≡ length es → suc k ≤ length ds
-among_more es ds c k q z =
-    let n : length ds ≡ length es + 1 = ap length q ∙ length-append es (c ∷ []) in
-    omega arith
+pub one_more : (es ds : List Entry) (c : Entry) → ds ≡ es ++ (c ∷ []) → length ds ≡ suc (length es)
+one_more es ds c q = ap length q ∙ length-append es (c ∷ []) ∙ add-one (length es)
 
 pub record Grown (es ds : List Entry) (fs : List Frame) (c : Entry) (e : ℕ) : Type 0 where
   pub nests : nested (length ds) e fs ≡ true
@@ -205,7 +203,7 @@ pub grown : (es ds : List Entry) (fs : List Frame) (c : Entry) (e : ℕ) → ds 
 grown es ds fs c e q z h =
     let len = length-reverse es in
     let u : reverse ds ≡ c ∷ reverse es = ap reverse q ∙ reverse-append es (c ∷ []) in
-    let n : length ds ≡ suc (length es) = ap length q ∙ length-append es (c ∷ []) ∙ add-one (length es) in
+    let n : length ds ≡ suc (length es) = one_more es ds c q in
     record {
       nests = nested_on (length es) (length ds) (reach c.below) e fs (omega arith) (omega arith) h;
       counts = n;
@@ -258,10 +256,8 @@ back es ds fs gs f e p q h =
 
 -- another environment among the same bindings
 
-pub nested_in : (es ds : List Entry) (e d d' : ℕ) (fs : List Frame) → ds ≡ es → d' ≡ d → d ≤ length (reverse es) → nested (length es) e fs ≡ true → nested (length ds) d' fs ≡ true
-nested_in es ds e d d' fs q z k h =
-    let len = length-reverse es in
-    rw (q, z) (nested_on (length es) (length es) e d fs (omega arith) (omega arith) h)
+pub nested_in : (es ds : List Entry) (e d : ℕ) (fs : List Frame) → ds ≡ es → d ≤ length ds → nested (length es) e fs ≡ true → nested (length ds) d fs ≡ true
+nested_in es ds e d fs q k h = nested_on (length es) (length ds) e d fs (rw q (omega arith)) k h
 
 -- empty tables
 
