@@ -1,6 +1,6 @@
 -- Environments and dump read off the tables stay the same lists where the tables grow or are given back, since each entry's
 -- environment is older than the entry (`linked`) and each frame's is among the bindings in use with it (`nested`).
-use Rattle.std.proofs.Common.{◌≡◌, ℕ, zero, suc, ◌+◌, ◌-◌, ◌<◌, ◌≤◌, true, false, cond, ◌&&◌, eqb, leb, List, [], ◌∷◌, ◌++◌, reverse, length, drop, Some, None, Option, Ok, Err, Result, is_ok, sym, refl, ap, ◌∙◌, subst, inl, inr, le_of_suc-le-suc, not-suc-le-zero, add-one, arith}
+use Rattle.std.proofs.Common.{◌≡◌, ℕ, zero, suc, ◌-◌, ◌<◌, ◌≤◌, true, false, cond, ◌&&◌, eqb, leb, List, [], ◌∷◌, ◌++◌, reverse, length, drop, Some, None, Option, Ok, Err, Result, is_ok, sym, refl, ap, ◌∙◌, subst, inl, inr, le_of_suc-le-suc, not-suc-le-zero, add-one, arith}
 use Rattle.std.proofs.lemmas.List.{length-drop, length-append, reverse-append, reverse-reverse, length-reverse}
 use Rattle.std.proofs.lemmas.Bool.{leb-true, le-leb, eq-eqb, ne_eqb, and_parts, and_from, cases_order}
 use Rattle.vocabulary.proofs.Tabled.{found_none}

@@ -59,11 +59,7 @@ impl Bindings {
     fn behind(&self, newer: u16) -> Option<u16>
         ensures { chain (reverse self.now.entries) (reach result) ≡ drop newer (chain (reverse self.now.entries) (reach self.now.env)) }
     {
-        let mut env = self.env;
-        for passed in 0..newer {
-            env = self.outer(env);
-        }
-        env
+        (0..newer).fold(self.env, |env, _| self.outer(env))
     }
 
     // The entry with `newer` newer ones in the present environment.

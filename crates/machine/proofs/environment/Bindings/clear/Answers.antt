@@ -1,4 +1,4 @@
-use Rattle.std.proofs.Common.{refl, rules}
+use Rattle.std.proofs.Common.{rules}
 use Rattle.machine.specs.Links.{linked}
 use Rattle.machine.proofs.environment.Bindings.clear.Goals as goal
 

@@ -1,4 +1,4 @@
-use Rattle.std.proofs.Common.{ap, sym, ◌∙◌}
+use Rattle.std.proofs.Common.{ap}
 use Rattle.machine.specs.Links.{reach}
 use Rattle.machine.proofs.Linking.{grown, nested_more}
 use Rattle.machine.proofs.Turning.{bind_goes}

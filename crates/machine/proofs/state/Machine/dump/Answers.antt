@@ -1,5 +1,3 @@
-use Rattle.std.proofs.Common.{rules}
-use Rattle.std.proofs.lemmas.List.{length-reverse}
 use Rattle.std.proofs.lemmas.Result.{err_from_is_err_and}
 use Rattle.machine.proofs.Turning.{entered, dump_goes, dump_full}
 use Rattle.machine.proofs.state.Machine.dump.Goals as goal
