@@ -259,11 +259,7 @@ back es ds fs gs f e p q h =
 pub nested_in : (es ds : List Entry) (e d : ℕ) (fs : List Frame) → ds ≡ es → d ≤ length ds → nested (length es) e fs ≡ true → nested (length ds) d fs ≡ true
 nested_in es ds e d fs q k h = nested_on (length es) (length ds) e d fs (rw q (omega arith)) k h
 
--- empty tables
-
-pub nested_none : (es : List Entry) (e : Option ℕ) (fs : List Frame) → es ≡ [] → e ≡ None → fs ≡ [] → nested (length es) (reach e) (reverse fs) ≡ true
-unfolding nested
-nested_none es e fs p q s = rw (p, q, s) refl
+-- the dump
 
 pub chains_none : (t : List Entry) (fs : List Frame) → fs ≡ [] → chains t fs ≡ []
 unfolding chains
