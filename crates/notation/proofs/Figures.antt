@@ -23,35 +23,35 @@ grows : (n : ℕ) (ds : List ℕ) → n ≤ digits_value_after 10 n ds
 grows n [] = omega arith
 grows n (c ∷ cs) = let g = grows (n * 10 + digit_value c) cs in omega arith
 
-module _ (all word : List ℕ) (at n : ℕ) (s : SoFar all (drop at word) n) where
-  module _ (h : at < length word) where
-    opened : SoFar all (get_or word at 0 ∷ drop (at + 1) word) n
-    opened = subst (λ l. SoFar all l n) (drop_more word at 0 h) s
+module _ (all : List ℕ) (at n : ℕ) (s : SoFar all (drop at all) n) where
+  module _ (h : at < length all) where
+    opened : SoFar all (get_or all at 0 ∷ drop (at + 1) all) n
+    opened = subst (λ l. SoFar all l n) (drop_more all at 0 h) s
 
-    pub so_far_more : (m : ℕ) → IsInRange 48 57 (get_or word at 0) → m ≡ n * 10 + (get_or word at 0 - 48) → SoFar all (drop (at + 1) word) m
+    pub so_far_more : (m : ℕ) → IsInRange 48 57 (get_or all at 0) → m ≡ n * 10 + (get_or all at 0 - 48) → SoFar all (drop (at + 1) all) m
     so_far_more m d e =
         let o = opened in
-        let v = digit_value_digit (get_or word at 0) d in
+        let v = digit_value_digit (get_or all at 0) d in
         let low = d.0 in
         let high = d.1 in
-        let f : m ≡ n * 10 + digit_value (get_or word at 0) = omega arith in
-        record { same = ap (λ k. digits_value_after 10 k (drop (at + 1) word)) f ∙ o.same; back = λ r. o.back (omega arith, r); on = λ r. (o.on r).1 }
+        let f : m ≡ n * 10 + digit_value (get_or all at 0) = omega arith in
+        record { same = ap (λ k. digits_value_after 10 k (drop (at + 1) all)) f ∙ o.same; back = λ r. o.back (omega arith, r); on = λ r. (o.on r).1 }
 
-    pub digit_bad : (IsInRange 48 57 (get_or word at 0) → ⊥) → (k : ℕ) → Unsigned all k → ⊥
-    digit_bad d k u = d (digit_from_value (get_or word at 0) (opened.on u.0.1).0)
+    pub digit_bad : (IsInRange 48 57 (get_or all at 0) → ⊥) → (k : ℕ) → Unsigned all k → ⊥
+    digit_bad d k u = d (digit_from_value (get_or all at 0) (opened.on u.0.1).0)
 
-    pub too_large : (most : ℕ) → IsInRange 48 57 (get_or word at 0) → most < n * 10 + (get_or word at 0 - 48) → (k : ℕ) → k ≤ most → Unsigned all k → ⊥
+    pub too_large : (most : ℕ) → IsInRange 48 57 (get_or all at 0) → most < n * 10 + (get_or all at 0 - 48) → (k : ℕ) → k ≤ most → Unsigned all k → ⊥
     too_large most d over k h u =
-        let v = digit_value_digit (get_or word at 0) d in
+        let v = digit_value_digit (get_or all at 0) d in
         let low = d.0 in
         let same = opened.same in
-        let g = grows (n * 10 + digit_value (get_or word at 0)) (drop (at + 1) word) in
+        let g = grows (n * 10 + digit_value (get_or all at 0)) (drop (at + 1) all) in
         let w = u.1 in
         omega arith
 
-  pub so_far_all : length word ≤ at → 0 < length all → Unsigned all n
+  pub so_far_all : length all ≤ at → 0 < length all → Unsigned all n
   so_far_all h some =
-      let t : SoFar all [] n = subst (λ l. SoFar all l n) (drop_all at word h) s in
+      let t : SoFar all [] n = subst (λ l. SoFar all l n) (drop_all at all h) s in
       ((some, t.back tt), sym t.same)
 
 neg_small : (n : ℕ) → mag (neg_ℤ (pos n)) < 2147483648 → n ≤ 2147483648

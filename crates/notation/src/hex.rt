@@ -1,5 +1,5 @@
 // Bytes in hex digits, two a byte, and `-` for no bytes.
-ghost use Rattle.std.specs.Prelude.{◌≡◌, ℕ, ◌+◌, ◌*◌, ◌<◌, List, IfOk, string_bytes, MatchOption, MatchResult, ◌≢◌, Some};
+ghost use Rattle.std.specs.Prelude.{◌≡◌, ℕ, ◌+◌, ◌*◌, ◌<◌, List, [], ◌∷◌, IfOk, string_bytes, MatchOption, MatchResult, ◌≢◌, Some};
 ghost use Rattle.notation.specs.declared.error.ReadError.TheVariants.{Memory};
 ghost use Rattle.notation.specs.Hex.{Bytes, hex_digit, hex_digits, hex_text};
 
@@ -18,12 +18,24 @@ fn digit_value(byte: u8) -> Option<u8>
     }
 }
 
-// The value of a digit, which stands at this place.
-fn read_digit(digit: u8, place: usize) -> Result<u8, WordError>
-    ensures { MatchResult result (λ d. (d < 16) × (hex_digit d ≡ digit)) (λ _. (d : ℕ) → d < 16 → hex_digit d ≢ digit) }
+// The byte of two digits; so many bytes of the word stand before them.
+fn read_byte(pair: &[u8; 2], before: usize) -> Result<u8, WordError>
+    ensures { MatchResult result (λ b. pair.now ≡ hex_digits (b ∷ [])) (λ _. (b : ℕ) → b < 256 → pair.now ≢ hex_digits (b ∷ [])) }
 {
-    let found = Shown(digit);
-    digit_value(digit).ok_or(WordError::NoHexDigit { place, found })
+    let [high, low] = *pair;
+    let Some(h) = digit_value(high) else {
+        return Err(WordError::NoHexDigit {
+            place: before.saturating_add(1),
+            found: Shown(high),
+        });
+    };
+    let Some(l) = digit_value(low) else {
+        return Err(WordError::NoHexDigit {
+            place: before.saturating_add(2),
+            found: Shown(low),
+        });
+    };
+    Ok(h * 16 + l)
 }
 
 fn read_pairs(heap: Global, word: &[u8], wanted: Wanted) -> Result<Vec<u8>, ReadError>
@@ -34,10 +46,9 @@ fn read_pairs(heap: Global, word: &[u8], wanted: Wanted) -> Result<Vec<u8>, Read
         return Err(wanted.missed(WordError::OddDigits));
     }
     let mut bytes = Vec::new(heap);
-    for (k, [high, low]) in pairs.iter().enumerate() {
-        let high = read_digit(*high, 2 * k + 1).map_err(|error| wanted.missed(error))?;
-        let low = read_digit(*low, 2 * k + 2).map_err(|error| wanted.missed(error))?;
-        bytes.push(high * 16 + low)?;
+    for (k, pair) in pairs.iter().enumerate() {
+        let byte = read_byte(pair, 2 * k).map_err(|error| wanted.missed(error))?;
+        bytes.push(byte)?;
     }
     Ok(bytes)
 }
@@ -64,7 +75,7 @@ impl fmt::Display for Hex<'_> {
         if self.0.is_empty() {
             return f.write_str("-");
         }
-        for byte in self.0 {
+        for &byte in self.0 {
             write!(f, "{byte:02x}")?;
         }
         Ok(())

@@ -37,13 +37,13 @@ pub fn read_digits(digits: &[u8], before: usize, most: u64) -> Result<u64, WordE
 pub fn read_signed(word: &[u8]) -> Result<i32, WordError>
     ensures { MatchResult result (λ z. Signed word.now z) (λ _. (z : ℤ) → FitsSigned w32 z → Signed word.now z → ⊥) }
 {
-    match word {
-        [b'-', digits @ ..] => {
+    match word.strip_prefix(b"-") {
+        Some(digits) => {
             let size = read_digits(digits, 1, 2147483648)?;
-            Ok((0 - size as i64) as i32)
+            Ok(-(size as i64) as i32)
         }
-        digits => {
-            let size = read_digits(digits, 0, 2147483647)?;
+        None => {
+            let size = read_digits(word, 0, 2147483647)?;
             Ok(size as i32)
         }
     }

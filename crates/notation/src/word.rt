@@ -20,7 +20,7 @@ pub fn next_word(line: &[u8]) -> (&[u8], &[u8])
     ensures second { result.1.now ≡ behind line.now }
 {
     let blanks = line.iter().take_while(|byte| is_blank(**byte)).count();
-    let text = &line[blanks..];
+    let (_, text) = line.split_at(blanks);
     let solids = text.iter().take_while(|byte| is_solid(**byte)).count();
     text.split_at(solids)
 }

@@ -3,4 +3,4 @@ use Rattle.notation.proofs.Figures.{SoFar}
 use Rattle.notation.proofs.number.read_digits.Given as goal
 
 abbrev pub invariant-loop-at : goal.invariant-loop-at
-invariant-loop-at l = (l.number ≤ l.most) × SoFar (drop l.from l.word) (drop l.«at» l.word) l.number
+invariant-loop-at l = (l.number ≤ l.most) × SoFar l.digits (drop l.«at» l.digits) l.number
