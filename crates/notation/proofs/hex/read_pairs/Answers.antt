@@ -20,10 +20,10 @@ loop-k-preserved c =
     let grown = pushed (c.in_ok-byte.byte ∷ []) refl c.in_ok-push.was c.push.ensures.items in
     let byte : get_or c.as_chunks.result.0.now c.loop-k.k [] ≡ pair_of c.in_ok-byte.byte = search rules in
     take_more c.as_chunks.result.0.now c.loop-k.k [] c.loop-k-test.true
-      ∙ ap (λ p. take c.loop-k.k c.as_chunks.result.0.now ++ p ∷ []) byte
-      ∙ ap (λ t. t ++ pair_of c.in_ok-byte.byte ∷ []) c.loop-k.invariant
-      ∙ sym (map_push pair_of (vec_items c.loop-k.bytes) c.in_ok-byte.byte)
-      ∙ ap (map pair_of) (sym grown)
+    ∙ ap (λ p. take c.loop-k.k c.as_chunks.result.0.now ++ p ∷ []) byte
+    ∙ ap (λ t. t ++ pair_of c.in_ok-byte.byte ∷ []) c.loop-k.invariant
+    ∙ sym (map_push pair_of (vec_items c.loop-k.bytes) c.in_ok-byte.byte)
+    ∙ ap (map pair_of) (sym grown)
 
 pub returns : goal.returns
 returns c =
