@@ -75,11 +75,11 @@ fn read_strip(rest: &[u8]) -> Result<StripPlan, ReadError>
 {
     let (kind, more) = next_word(rest);
     match kind {
-        b"records" => last_number(more, Wanted::RecordCount, u64::MAX).map(
-            |records| StripPlan::Records(records as usize),
+        b"records" => last_number(more, Wanted::RecordCount, usize::MAX as u64).map(
+            |n| StripPlan::Records(n as usize),
         ),
-        b"text" => last_number(more, Wanted::ByteCount, u64::MAX).map(|bytes| StripPlan::Text(
-            bytes as usize,
+        b"text" => last_number(more, Wanted::ByteCount, usize::MAX as u64).map(|n| StripPlan::Text(
+            n as usize,
         )),
         _ => Err(ReadError::UnknownStrip),
     }
