@@ -1,15 +1,19 @@
 -- What stands behind the first words of a line: where its reader refuses it, nothing stands there.
-use Rattle.std.proofs.Common.{◌≡◌, ℕ, ◌^◌, ◌<◌, ◌≤◌, Bool, true, false, cond, List, [], ◌∷◌, map, length, drop, ℤ, Ok, Err, codes, Result, sym, refl, ap, ◌∙◌, subst, arith, w32, SFits}
+use Rattle.std.proofs.Common.{◌≡◌, ℕ, ◌^◌, ◌<◌, ◌≤◌, Bool, true, false, cond, List, [], ◌∷◌, map, length, drop, ℤ, Ok, Err, codes, Option, Result, MatchResult, IsOkAnd, ◌≢◌, Vec, Global, vec_items, sym, refl, ap, ◌∙◌, subst, arith, w32, SFits}
 use Rattle.std.specs.Str.Parse.{digits_value}
 use Rattle.std.specs.List.{AllByRecursion}
 use Rattle.std.specs.Str.{bytes_eq}
 use Rattle.vocabulary.specs.declared.item.Item.{Item}
+use Rattle.ports.specs.declared.trace.Record.{Record}
+use Rattle.ports.specs.Traces.{items_of}
 use Rattle.notation.specs.declared.error.ReadError.{ReadError}
+use Rattle.notation.specs.declared.error.ReadError.TheVariants.{Memory}
 use Rattle.notation.specs.declared.plan.Line.{Line}
 use Rattle.notation.specs.Hex.{Bytes, hex_text}
-use Rattle.notation.specs.Lines.{Spoken, nothing, trace_feed, ramp_feed, record_strip, text_strip, loads, opens, rewinds, runs, reports, ItemRange, InRange, AreItems, Say, Reads, ReadsBehind, spoken}
+use Rattle.notation.specs.Lines.{Spoken, nothing, trace_feed, ramp_feed, record_strip, text_strip, loads, opens, rewinds, runs, reports, ItemRange, InRange, AreItems, Say, Reads, ReadsBehind, spoken, said}
 use Rattle.notation.specs.Numbers.{Unsigned, Signed}
 use Rattle.notation.specs.Words.{word, behind, Words}
+use Rattle.notation.proofs.Figures.{signed_some}
 use Rattle.notation.proofs.Heard.{heard, heard_is, unhex, at, item_in, signed_in}
 
 -- what words say is what is heard in them
@@ -23,6 +27,10 @@ Unsaid first rest = (s : Spoken) → InRange s → (ws : List (List ℕ)) → Wo
 -- no number up to `most` stands in the only word of the rest
 abbrev pub NoNumber : ℕ → List ℕ → Type 0
 NoNumber most rest = (n : ℕ) → n ≤ most → (w : List ℕ) → Words rest (w ∷ []) → Unsigned w n → ⊥
+
+-- no items in their ranges stand in the rest
+abbrev pub NoItems : List ℕ → Type 0
+NoItems rest = (items : List Item) → AllByRecursion ItemRange items → (ws : List (List ℕ)) → Words rest ws → AreItems ws items → ⊥
 
 abbrev pub NoBytes : List ℕ → Type 0
 NoBytes rest = (bytes : List ℕ) → Bytes bytes → Words rest (hex_text bytes ∷ []) → ⊥
@@ -58,7 +66,7 @@ module _ (rest : List ℕ) where
       let h = p.0 in
       none (digits_value 10 (at ws 0)) (omega arith) p.1.0 (subst (Words rest) (ap (drop 2) p.1.1) w) p.1.2
 
-  pub trace_bad : ((items : List Item) → AllByRecursion ItemRange items → (ws : List (List ℕ)) → Words rest ws → AreItems ws items → ⊥) → Unsaid (λ ws. codes "feed" ∷ codes "trace" ∷ ws) rest
+  pub trace_bad : NoItems rest → Unsaid (λ ws. codes "feed" ∷ codes "trace" ∷ ws) rest
   trace_bad none s i ws w y =
       let p = as_heard (codes "feed" ∷ codes "trace" ∷ ws) s i y in
       none (map item_in ws) p.0 p.1.0 (subst (Words rest) (ap (drop 2) p.1.1) w) p.1.2
@@ -116,13 +124,74 @@ module _ (verb rest : List ℕ) (feed : verb ≡ codes "feed" → ⊥) (strip : 
   line-unknown (runs fuel) i ws w y = run (ap (λ l. at l 0) y.1)
   line-unknown reports i ws w y = report (ap (λ l. at l 0) y)
 
--- a line, by its first word and what stands behind it
-module _ (line : List ℕ) (some : 0 < length (word line)) where
-  pub line_read : (r : Result Line ReadError) → ReadsBehind (λ ws. word line ∷ ws) (behind line) r → Reads line r
-  line_read (Ok l) p = (word line ∷ p.0, (refl, some, p.1), p.2)
-  line_read (Err e) p = λ other s i st. unsaid_on line (λ ws. ws) (word line) refl some (p other) s i st.0 st.1 st.2
+-- what was read, as a plan that says it
+module _ (rest : List ℕ) where
+  abbrev pub BytesRead : Result (Vec ℕ Global) ReadError → Type 0
+  BytesRead r = MatchResult r (λ v. Words rest (hex_text (vec_items v) ∷ [])) (λ e. (e ≢ Memory) → NoBytes rest)
+
+  abbrev pub NumberRead : ℕ → Result ℕ ReadError → Type 0
+  NumberRead most r = MatchResult r (λ n. (n ≤ most) × ((w : List ℕ) × Words rest (w ∷ []) × Unsigned w n)) (λ _. NoNumber most rest)
+
+  abbrev pub EndRead : Result (Unit {0}) ReadError → Type 0
+  EndRead r = MatchResult r (λ _. Words rest []) (λ _. Words rest [] → ⊥)
+
+  pub load_read : (r : Result (Vec ℕ Global) ReadError) → BytesRead r → ReadsBehind (λ v. loads (vec_items v)) (λ ws. codes "load" ∷ ws) rest r
+  load_read (Ok v) p = (hex_text (vec_items v) ∷ [], p, refl)
+  load_read (Err e) p = λ other. load_bad rest (p other)
+
+  pub open_read : (r : Result (Vec ℕ Global) ReadError) → BytesRead r → ReadsBehind (λ v. opens (vec_items v)) (λ ws. codes "open" ∷ ws) rest r
+  open_read (Ok v) p = (hex_text (vec_items v) ∷ [], p, refl)
+  open_read (Err e) p = λ other. open_bad rest (p other)
+
+  pub rewind_read : (r : Result (Unit {0}) ReadError) → EndRead r → ReadsBehind (λ _. rewinds) (λ ws. codes "rewind" ∷ ws) rest r
+  rewind_read (Ok v) p = ([], p, refl)
+  rewind_read (Err e) p = λ _. rewind_bad rest p
+
+  pub report_read : (r : Result (Unit {0}) ReadError) → EndRead r → ReadsBehind (λ _. reports) (λ ws. codes "report" ∷ ws) rest r
+  report_read (Ok v) p = ([], p, refl)
+  report_read (Err e) p = λ _. report_bad rest p
+
+  pub run_read : (r : Result ℕ ReadError) → NumberRead 4294967295 r → ReadsBehind runs (λ ws. codes "run" ∷ ws) rest r
+  run_read (Ok n) p = (p.1.0 ∷ [], p.1.1, (p.1.0, refl, p.1.2))
+  run_read (Err e) p = λ _. run_bad rest p
+
+  pub records_read : (r : Result ℕ ReadError) → NumberRead 18446744073709551615 r → ReadsBehind record_strip (λ ws. codes "strip" ∷ codes "records" ∷ ws) rest r
+  records_read (Ok n) p = (p.1.0 ∷ [], p.1.1, (p.1.0, refl, p.1.2))
+  records_read (Err e) p = λ _. records_bad rest p
+
+  pub text_read : (r : Result ℕ ReadError) → NumberRead 18446744073709551615 r → ReadsBehind text_strip (λ ws. codes "strip" ∷ codes "text" ∷ ws) rest r
+  text_read (Ok n) p = (p.1.0 ∷ [], p.1.1, (p.1.0, refl, p.1.2))
+  text_read (Err e) p = λ _. text_bad rest p
+
+  pub trace_read : (r : Result (Vec Record Global) ReadError) → MatchResult r (λ records. (ws : List (List ℕ)) × Words rest ws × AreItems ws (items_of (vec_items records))) (λ e. (e ≢ Memory) → NoItems rest) → ReadsBehind (λ records. trace_feed (items_of (vec_items records))) (λ ws. codes "feed" ∷ codes "trace" ∷ ws) rest r
+  trace_read (Ok v) p = (p.0, p.1, (p.0, refl, p.2))
+  trace_read (Err e) p = λ other. trace_bad rest (p other)
+
+-- the same by a plan that is made of it and says the same
+module _ {P Q : Type 0} (says : P → Spoken) (also : Q → Spoken) (first : List (List ℕ) → List (List ℕ)) (rest : List ℕ) where
+  pub mapped : {post : P → Q → Type 0} (r : Result P ReadError) (s : Result Q ReadError) → MatchResult r (λ x. IsOkAnd s (post x)) (λ e. s ≡ Err e) → ((x : P) (y : Q) → post x y → also y ≡ says x) → ReadsBehind says first rest r → ReadsBehind also first rest s
+  mapped (Ok x) (Ok y) m same p = (p.0, p.1, subst (Say (first p.0)) (sym (same x y m)) p.2)
+  mapped (Ok x) (Err e) m same p = absurd m
+  mapped (Err e) s m same p = subst (ReadsBehind also first rest) (sym m) p
+
+pub at_verb : (verb v rest : List ℕ) (r : Result Line ReadError) → verb ≡ v → ReadsBehind spoken (λ ws. v ∷ ws) rest r → ReadsBehind spoken (λ ws. verb ∷ ws) rest r
+at_verb verb v rest r e p = subst (λ v. ReadsBehind spoken (λ ws. v ∷ ws) rest r) (sym e) p
 
 -- one more first word
-pub reads_on : (rest : List ℕ) (first : List (List ℕ) → List (List ℕ)) (v : List ℕ) → word rest ≡ v → 0 < length v → (r : Result Line ReadError) → ReadsBehind (λ ws. first (v ∷ ws)) (behind rest) r → ReadsBehind first rest r
-reads_on rest first v e some (Ok l) p = said_on rest first v (spoken l) e some p
-reads_on rest first v e some (Err x) p = λ other. unsaid_on rest first v e some (p other)
+module _ {P : Type 0} (says : P → Spoken) where
+  pub reads_on : (rest after : List ℕ) (first : List (List ℕ) → List (List ℕ)) (v : List ℕ) → word rest ≡ v → after ≡ behind rest → 0 < length v → (r : Result P ReadError) → ReadsBehind says (λ ws. first (v ∷ ws)) after r → ReadsBehind says first rest r
+  reads_on rest after first v e f some (Ok l) p = said_on rest first v (says l) e some (p.0, subst (λ t. Words t p.0) f p.1, p.2)
+  reads_on rest after first v e f some (Err x) p = λ other. unsaid_on rest first v e some (subst (Unsaid (λ ws. first (v ∷ ws))) f (p other))
+
+-- a whole line is what stands behind no words
+pub line_read : (line : List ℕ) (r : Result (Option Line) ReadError) → ReadsBehind said (λ ws. ws) line r → Reads line r
+line_read line (Ok l) p = p
+line_read line (Err e) p = λ other s i st. p other s i st.0 st.1 st.2
+
+-- three words that say a ramp
+pub ramp_said : (rest first on second third : List ℕ) (start step : ℤ) (count : ℕ) → first ≡ word rest → on ≡ behind rest → second ≡ word on → third ≡ behind on → Signed first start → Signed second step → (w : List ℕ) × Words third (w ∷ []) × Unsigned w count → (ws : List (List ℕ)) × Words rest ws × Say (codes "feed" ∷ codes "ramp" ∷ ws) (ramp_feed start step count)
+ramp_said rest first on second third start step count e f g h a b p = (
+  first ∷ second ∷ p.0 ∷ [],
+  (sym e, signed_some first start a, subst (λ t. Words t (second ∷ p.0 ∷ [])) f (sym g, signed_some second step b, subst (λ t. Words t (p.0 ∷ [])) h p.1)),
+  (first, second, p.0, refl, a, b, p.2),
+)

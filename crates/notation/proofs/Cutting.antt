@@ -1,51 +1,30 @@
--- Going along a line byte by byte: the invariants say what the bytes from place n on make of the whole line.
-use Rattle.std.proofs.Common.{◌≡◌, ℕ, ◌+◌, ◌<◌, ◌≤◌, true, false, eqb, List, [], ◌∷◌, ◌++◌, length, get_or, take, drop, sym, ap, ◌∙◌, append_assoc, append-nil, arith}
-use Rattle.std.proofs.lemmas.List.{drop_more, take_more, drop_all, nil_from_length}
-use Rattle.std.proofs.lemmas.Bool.{cond-true, cond-false, eqb-true, eqb-false}
-use Rattle.notation.specs.Words.{blank, solid, trimmed, front, rest}
+-- Where a line is cut: so many blanks stand in front, and so many bytes are of the word behind them.
+use Rattle.std.proofs.Common.{◌≡◌, ℕ, suc, ◌+◌, ◌<◌, ◌≤◌, true, false, cond, eqb, List, [], ◌∷◌, length, take, drop, sym, refl, ap, ◌∙◌, subst, arith}
+use Rattle.std.specs.List.{prefix_len}
+use Rattle.std.proofs.lemmas.List.{nil_from_length}
+use Rattle.std.proofs.lemmas.List.Folds.{length-prefix_len}
+use Rattle.std.proofs.lemmas.Bool.{eqb-true, eqb-false}
+use Rattle.notation.specs.Words.{blank, solid, trimmed, front, rest, word, behind}
 
-module _ (line : List ℕ) (n : ℕ) where
-  abbrev pub Trims : Type 0
-  Trims = trimmed (drop n line) ≡ trimmed line
+pub cut_blanks : (line : List ℕ) → drop (prefix_len blank line) line ≡ trimmed line
+cut_blanks [] = refl
+cut_blanks (b ∷ bs) =
+    let e : 1 + prefix_len blank bs ≡ suc (prefix_len blank bs) = omega arith in
+    elim (blank b) as (λ t. drop (cond t (1 + prefix_len blank bs) 0) (b ∷ bs) ≡ cond t (trimmed bs) (b ∷ bs)) [ true ↦ rw e (cut_blanks bs) | false ↦ refl ]
 
-  -- the bytes before n are of the word
-  abbrev pub Fronts : Type 0
-  Fronts = (take n line ++ front (drop n line) ≡ front line) × (rest (drop n line) ≡ rest line)
+pub cut_word : (line : List ℕ) → (take (prefix_len solid line) line ≡ front line) × (drop (prefix_len solid line) line ≡ rest line)
+cut_word [] = (refl, refl)
+cut_word (b ∷ bs) =
+    let e : 1 + prefix_len solid bs ≡ suc (prefix_len solid bs) = omega arith in
+    let p = cut_word bs in
+    elim (solid b) as (λ t. (take (cond t (1 + prefix_len solid bs) 0) (b ∷ bs) ≡ cond t (b ∷ front bs) []) × (drop (cond t (1 + prefix_len solid bs) 0) (b ∷ bs) ≡ cond t (rest bs) (b ∷ bs))) [ true ↦ rw e (ap (λ t. b ∷ t) p.0, p.1) | false ↦ (refl, refl) ]
 
-  module _ (h : n < length line) where
-    opened : drop n line ≡ get_or line n 0 ∷ drop (n + 1) line
-    opened = drop_more line n 0 h
-
-    pub trims_more : blank (get_or line n 0) ≡ true → Trims → trimmed (drop (n + 1) line) ≡ trimmed line
-    trims_more b e = sym (ap trimmed opened ∙ cond-true _ _ _ b) ∙ e
-
-    pub trims_stop : blank (get_or line n 0) ≡ false → Trims → drop n line ≡ trimmed line
-    trims_stop b e = opened ∙ sym (ap trimmed opened ∙ cond-false _ _ _ b) ∙ e
-
-    pub fronts_more : solid (get_or line n 0) ≡ true → Fronts → (take (n + 1) line ++ front (drop (n + 1) line) ≡ front line) × (rest (drop (n + 1) line) ≡ rest line)
-    fronts_more b e = (
-      ap (λ t. t ++ front (drop (n + 1) line)) (take_more line n 0 h)
-          ∙ append_assoc (take n line) (get_or line n 0 ∷ []) (front (drop (n + 1) line))
-          ∙ ap (λ t. take n line ++ t) (sym (ap front opened ∙ cond-true _ _ _ b))
-          ∙ e.0,
-      sym (ap rest opened ∙ cond-true _ _ _ b) ∙ e.1,
-    )
-
-    pub fronts_stop : solid (get_or line n 0) ≡ false → Fronts → (take n line ≡ front line) × (drop n line ≡ rest line)
-    fronts_stop b e = (
-      sym (append-nil (take n line)) ∙ ap (λ t. take n line ++ t) (sym (ap front opened ∙ cond-false _ _ _ b)) ∙ e.0,
-      opened ∙ sym (ap rest opened ∙ cond-false _ _ _ b) ∙ e.1,
-    )
-
-  module _ (h : length line ≤ n) where
-    pub trims_all : Trims → drop n line ≡ trimmed line
-    trims_all e = drop_all n line h ∙ sym (ap trimmed (drop_all n line h)) ∙ e
-
-    pub fronts_all : Fronts → (take n line ≡ front line) × (drop n line ≡ rest line)
-    fronts_all e = (
-      sym (append-nil (take n line)) ∙ ap (λ t. take n line ++ t) (sym (ap front (drop_all n line h))) ∙ e.0,
-      drop_all n line h ∙ sym (ap rest (drop_all n line h)) ∙ e.1,
-    )
+-- the cuts where the bytes that pass were counted
+pub cut : (line text : List ℕ) (blanks solids : ℕ) → blanks ≡ length (take (prefix_len blank line) line) → text ≡ drop blanks line → solids ≡ length (take (prefix_len solid text) text) → (take solids text ≡ word line) × (drop solids text ≡ behind line)
+cut line text blanks solids e f g =
+    let t : text ≡ trimmed line = f ∙ ap (λ n. drop n line) (e ∙ length-prefix_len blank line) ∙ cut_blanks line in
+    let n = g ∙ length-prefix_len solid text in
+    (ap (λ k. take k text) n ∙ (cut_word text).0 ∙ ap front t, ap (λ k. drop k text) n ∙ (cut_word text).1 ∙ ap rest t)
 
 -- a word that was tested for being empty
 pub word_none : (first word : List ℕ) → first ≡ word → true ≡ eqb (length first) 0 → word ≡ []

@@ -1,5 +1,5 @@
 -- What a line says: its text as it is written, and which lines say it.
-use Rattle.std.specs.Prelude.{◌≡◌, ℕ, ◌^◌, ◌<◌, List, [], ◌∷◌, ◌++◌, map, ℤ, vec_items, codes, decimal, Result, MatchResult, FitsSigned, ◌≢◌}
+use Rattle.std.specs.Prelude.{◌≡◌, ℕ, ◌^◌, ◌<◌, List, [], ◌∷◌, ◌++◌, map, ℤ, vec_items, codes, decimal, Option, Some, None, Result, MatchResult, FitsSigned, ◌≢◌}
 use Rattle.std.specs.Int.{w32}
 use Rattle.std.specs.List.{flat_map, AllByRecursion}
 use Rattle.std.specs.Fmt.{signed_decimal}
@@ -13,7 +13,7 @@ use Rattle.notation.specs.declared.plan.CallPlan.TheVariants.{Load, Open, Rewind
 use Rattle.notation.specs.declared.plan.FeedPlan.{FeedPlan}
 use Rattle.notation.specs.declared.plan.FeedPlan.TheVariants.{Trace, Ramp}
 use Rattle.notation.specs.declared.plan.Line.{Line}
-use Rattle.notation.specs.declared.plan.Line.TheVariants.{Nothing, Feed, Strip, Call}
+use Rattle.notation.specs.declared.plan.Line.TheVariants.{Feed, Strip, Call}
 use Rattle.notation.specs.declared.plan.StripPlan.{StripPlan}
 use Rattle.notation.specs.declared.plan.StripPlan.TheVariants.{Records, Text}
 use Rattle.notation.specs.Hex.{Bytes, hex_text}
@@ -50,10 +50,14 @@ spoken_call (Run fuel) = runs fuel
 spoken_call Report = reports
 
 abbrev pub spoken : Line → Spoken
-spoken Nothing = nothing
 spoken (Feed plan) = spoken_feed plan
 spoken (Strip plan) = spoken_strip plan
 spoken (Call plan) = spoken_call plan
+
+-- a line that plans nothing says nothing
+abbrev pub said : Option Line → Spoken
+said None = nothing
+said (Some line) = spoken line
 
 -- the range of an item: 32 bits, or a fault's code from 1 to 255
 abbrev pub ItemRange : Item → Type 0
@@ -131,11 +135,11 @@ abbrev pub Stands : List ℕ → Spoken → Type 0
 Stands line s = (ws : List (List ℕ)) × Words line ws × Say ws s
 
 -- what reading a line gives: what stands there; or an error, and then nothing within its ranges stands there, unless memory was wanting
-abbrev pub Reads : List ℕ → Result Line ReadError → Type 0
-Reads line r = MatchResult r (λ l. Stands line (spoken l)) (λ e. (e ≢ Memory) → (s : Spoken) → InRange s → Stands line s → ⊥)
+abbrev pub Reads : List ℕ → Result (Option Line) ReadError → Type 0
+Reads line r = MatchResult r (λ l. Stands line (said l)) (λ e. (e ≢ Memory) → (s : Spoken) → InRange s → Stands line s → ⊥)
 
--- the same of what stands behind some first words
-abbrev pub ReadsBehind : (List (List ℕ) → List (List ℕ)) → List ℕ → Result Line ReadError → Type 0
-ReadsBehind first rest r =
-    MatchResult r (λ l. (ws : List (List ℕ)) × Words rest ws × Say (first ws) (spoken l))
+-- the same of what stands behind some first words, where a plan says what `says` gives of it
+abbrev pub ReadsBehind : {P : Type 0} → (P → Spoken) → (List (List ℕ) → List (List ℕ)) → List ℕ → Result P ReadError → Type 0
+ReadsBehind says first rest r =
+    MatchResult r (λ l. (ws : List (List ℕ)) × Words rest ws × Say (first ws) (says l))
     (λ e. (e ≢ Memory) → (s : Spoken) → InRange s → (ws : List (List ℕ)) → Words rest ws → Say (first ws) s → ⊥)

@@ -1,12 +1,13 @@
 // Why a line cannot be read: a sentence that says what is wrong, where, and what would be right.
 ghost use Rattle.std.specs.Prelude.{◌≡◌};
-ghost use Rattle.notation.specs.declared.error.ReadError.TheVariants.{Memory};
+ghost use Rattle.notation.specs.declared.error.ReadError.TheVariants.{Memory, Word};
 
 use std::alloc::{AllocError, AllocFailed};
 use std::fmt;
+use thiserror::Error;
 
 // What a word was to say. Items of a trace are counted from 1.
-#[derive(Clone, Copy)]
+#[derive(Clone, Copy, Debug, PartialEq, Eq)]
 pub enum Wanted {
     Table,
     Sheet,
@@ -20,23 +21,45 @@ pub enum Wanted {
     FaultCode(usize),
 }
 
-// Places are counted from 1, in bytes of the word.
-#[derive(Clone, Copy)]
+// A byte as it is shown in a message: itself where it can be printed, and else its number in base 16.
+#[derive(Clone, Copy, Debug, PartialEq, Eq)]
+pub struct Shown(pub u8);
+
+// What is wrong with a word. Places are counted from 1, in bytes of the word.
+#[derive(Clone, Copy, Debug, PartialEq, Eq, Error)]
+pub enum WordError {
+    // the line ends where the word was to come
+    #[error("a word is missing")]
+    Missing,
+    // the word ends where a digit was to come
+    #[error("the word has no digit")]
+    NoDigits,
+    #[error("{found} at place {place} is no digit 0 to 9")]
+    NoDigit { place: usize, found: Shown },
+    #[error("the number is out of range")]
+    OutOfRange,
+    #[error("{found} at place {place} is no digit 0 to 9 or a to f")]
+    NoHexDigit { place: usize, found: Shown },
+    #[error("hex digits come in pairs, and the last is alone")]
+    OddDigits,
+}
+
+#[derive(Clone, Copy, Debug, PartialEq, Eq, Error)]
 pub enum ReadError {
     // no line begins with this word
+    #[error("no such line is known: a line begins with feed, strip, load, open, rewind, run or report")]
     UnknownLine,
+    #[error("`feed` wants `trace` and its items, or `ramp START STEP COUNT`")]
     UnknownFeed,
+    #[error("`strip` wants `records N` or `text N`")]
     UnknownStrip,
-    // the line ends where a word was to come
-    Missing(Wanted),
-    // the word ends where a digit was to come
-    NoDigits(Wanted),
-    NoDigit(Wanted, usize, u8),
-    OutOfRange(Wanted),
-    NoHexDigit(Wanted, usize, u8),
-    OddDigits(Wanted),
+    // a word does not say what it was to say
+    #[error("{error}: wanted is {wanted}")]
+    Word { wanted: Wanted, error: WordError },
     // a word stands behind the last that the line may have
+    #[error("the line has a word too many: begin a comment with #")]
     TooManyWords,
+    #[error("there is no memory for what the line holds")]
     Memory,
 }
 
@@ -56,6 +79,18 @@ impl<T: Drop> From<AllocFailed<T>> for ReadError {
     }
 }
 
+impl Wanted {
+    // Why the line cannot be read, where a word is wrong.
+    pub fn missed(self, error: WordError) -> ReadError
+        ensures { result ≡ Word self error }
+    {
+        ReadError::Word {
+            wanted: self,
+            error,
+        }
+    }
+}
+
 impl fmt::Display for Wanted {
     fn fmt<W: fmt::Write>(&self, f: &mut fmt::Formatter<W>) -> fmt::Result {
         match self {
@@ -65,41 +100,48 @@ impl fmt::Display for Wanted {
             Wanted::Sheet => f.write_str(
                 "the sheet of `open`, two hex digits a byte, or - for no bytes",
             ),
-            Wanted::Fuel => f.write_str("the fuel of `run`, a number from 0 to 4294967295"),
-            Wanted::RecordCount => f.write_str(
-                "the number of records of the strip, from 0 to 18446744073709551615",
-            ),
-            Wanted::ByteCount => f.write_str(
-                "the number of bytes of the strip, from 0 to 18446744073709551615",
-            ),
-            Wanted::Start => f.write_str(
-                "the start of the ramp, a number from -2147483648 to 2147483647",
-            ),
-            Wanted::Step => f.write_str(
-                "the step of the ramp, a number from -2147483648 to 2147483647",
-            ),
-            Wanted::Count => f.write_str("the count of the ramp, a number from 0 to 65535"),
-            Wanted::Reading(n) => {
-                let item = *n;
+            Wanted::Fuel => write!(f, "the fuel of `run`, a number from 0 to {}", u32::MAX),
+            Wanted::RecordCount => {
                 write!(
                     f,
-                    "item {item} of the trace, a number from -2147483648 to 2147483647 or a fault as fault:3"
+                    "the number of records of the strip, from 0 to {}",
+                    usize::MAX
                 )
             }
-            Wanted::FaultCode(n) => {
-                let item = *n;
+            Wanted::ByteCount => {
                 write!(
                     f,
-                    "item {item} of the trace, a fault whose code is a number from 1 to 255"
+                    "the number of bytes of the strip, from 0 to {}",
+                    usize::MAX
                 )
             }
+            Wanted::Start => write!(
+                f,
+                "the start of the ramp, a number from {} to {}",
+                i32::MIN,
+                i32::MAX
+            ),
+            Wanted::Step => write!(
+                f,
+                "the step of the ramp, a number from {} to {}",
+                i32::MIN,
+                i32::MAX
+            ),
+            Wanted::Count => write!(f, "the count of the ramp, a number from 0 to {}", u16::MAX),
+            Wanted::Reading(item) => write!(
+                f,
+                "item {item} of the trace, a number from {} to {} or a fault as fault:3",
+                i32::MIN,
+                i32::MAX
+            ),
+            Wanted::FaultCode(item) => write!(
+                f,
+                "item {item} of the trace, a fault whose code is a number from 1 to {}",
+                u8::MAX
+            ),
         }
     }
 }
-
-// A byte as it is shown in a message: itself where it can be printed, and else its number in base 16.
-#[derive(Clone, Copy)]
-struct Shown(u8);
 
 impl fmt::Display for Shown {
     fn fmt<W: fmt::Write>(&self, f: &mut fmt::Formatter<W>) -> fmt::Result {
@@ -109,63 +151,6 @@ impl fmt::Display for Shown {
             write!(f, "`{character}`")
         } else {
             write!(f, "byte 0x{byte:02x}")
-        }
-    }
-}
-
-impl fmt::Display for ReadError {
-    fn fmt<W: fmt::Write>(&self, f: &mut fmt::Formatter<W>) -> fmt::Result {
-        match self {
-            ReadError::UnknownLine => {
-                f.write_str(
-                    "no such line is known: a line begins with feed, strip, load, open, rewind, run or report",
-                )
-            }
-            ReadError::UnknownFeed => f.write_str(
-                "`feed` wants `trace` and its items, or `ramp START STEP COUNT`",
-            ),
-            ReadError::UnknownStrip => f.write_str("`strip` wants `records N` or `text N`"),
-            ReadError::Missing(w) => {
-                let wanted = *w;
-                write!(f, "a word is missing: wanted is {wanted}")
-            }
-            ReadError::NoDigits(w) => {
-                let wanted = *w;
-                write!(f, "the word has no digit: wanted is {wanted}")
-            }
-            ReadError::NoDigit(w, p, b) => {
-                let wanted = *w;
-                let place = *p;
-                let found = Shown(*b);
-                write!(
-                    f,
-                    "{found} at place {place} is no digit 0 to 9: wanted is {wanted}"
-                )
-            }
-            ReadError::OutOfRange(w) => {
-                let wanted = *w;
-                write!(f, "the number is out of range: wanted is {wanted}")
-            }
-            ReadError::NoHexDigit(w, p, b) => {
-                let wanted = *w;
-                let place = *p;
-                let found = Shown(*b);
-                write!(
-                    f,
-                    "{found} at place {place} is no digit 0 to 9 or a to f: wanted is {wanted}"
-                )
-            }
-            ReadError::OddDigits(w) => {
-                let wanted = *w;
-                write!(
-                    f,
-                    "hex digits come in pairs, and the last is alone: wanted is {wanted}"
-                )
-            }
-            ReadError::TooManyWords => f.write_str(
-                "the line has a word too many: begin a comment with #",
-            ),
-            ReadError::Memory => f.write_str("there is no memory for what the line holds"),
         }
     }
 }

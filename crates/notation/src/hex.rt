@@ -1,12 +1,13 @@
 // Bytes in hex digits, two a byte, and `-` for no bytes.
-ghost use Rattle.std.specs.Prelude.{◌≡◌, ℕ, ◌/◌, ◌%◌, ◌<◌, List, [], ◌∷◌, ◌++◌, length, IfOk, string_bytes, MatchOption, MatchResult, OnOk, ◌≢◌, slice_index};
+ghost use Rattle.std.specs.Prelude.{◌≡◌, ℕ, ◌+◌, ◌*◌, ◌<◌, List, [], ◌∷◌, IfOk, string_bytes, MatchOption, MatchResult, ◌≢◌, Some};
 ghost use Rattle.notation.specs.declared.error.ReadError.TheVariants.{Memory};
 ghost use Rattle.notation.specs.Hex.{Bytes, hex_digit, hex_digits, hex_text};
 
-use crate::error::{ReadError, Wanted};
-use crate::word::is;
+use crate::error::{ReadError, Shown, Wanted, WordError};
 use std::alloc::{AllocError, Global};
+use std::fmt;
 
+// `to_digit` of std would take upper case too.
 fn digit_value(byte: u8) -> Option<u8>
     ensures { MatchOption result ((d : ℕ) → d < 16 → hex_digit d ≢ byte) (λ d. (d < 16) × (hex_digit d ≡ byte)) }
 {
@@ -17,28 +18,37 @@ fn digit_value(byte: u8) -> Option<u8>
     }
 }
 
-// The value of the digit at a place.
-fn digit_at(word: &[u8], at: usize, wanted: Wanted) -> Result<u8, ReadError>
-    requires { at < length word.now }
-    ensures { MatchResult result (λ d. (d < 16) × (hex_digit d ≡ slice_index word.now at)) (λ _. (d : ℕ) → d < 16 → hex_digit d ≢ slice_index word.now at) }
+// The byte of two digits; so many bytes of the word stand before them.
+fn read_byte(pair: &[u8; 2], before: usize) -> Result<u8, WordError>
+    ensures { MatchResult result (λ b. pair.now ≡ hex_digits (b ∷ [])) (λ _. (b : ℕ) → b < 256 → pair.now ≢ hex_digits (b ∷ [])) }
 {
-    match digit_value(word[at]) {
-        Some(digit) => Ok(digit),
-        None => Err(ReadError::NoHexDigit(wanted, at + 1, word[at])),
-    }
+    let [high, low] = *pair;
+    let Some(h) = digit_value(high) else {
+        return Err(WordError::NoHexDigit {
+            place: before.saturating_add(1),
+            found: Shown(high),
+        });
+    };
+    let Some(l) = digit_value(low) else {
+        return Err(WordError::NoHexDigit {
+            place: before.saturating_add(2),
+            found: Shown(low),
+        });
+    };
+    Ok(h * 16 + l)
 }
 
 fn read_pairs(heap: Global, word: &[u8], wanted: Wanted) -> Result<Vec<u8>, ReadError>
     ensures { MatchResult result (λ bytes. word.now ≡ hex_digits bytes.items) (λ e. (e ≢ Memory) → (bytes : List ℕ) → Bytes bytes → word.now ≢ hex_digits bytes) }
 {
-    if word.len() % 2 != 0 {
-        return Err(ReadError::OddDigits(wanted));
+    let (pairs, alone) = word.as_chunks::<2>();
+    if !alone.is_empty() {
+        return Err(wanted.missed(WordError::OddDigits));
     }
     let mut bytes = Vec::new(heap);
-    for k in 0..word.len() / 2 {
-        let high = digit_at(word, 2 * k, wanted)?;
-        let low = digit_at(word, 2 * k + 1, wanted)?;
-        bytes.push(high * 16 + low)?;
+    for (k, pair) in pairs.iter().enumerate() {
+        let byte = read_byte(pair, 2 * k).map_err(|error| wanted.missed(error))?;
+        bytes.push(byte)?;
     }
     Ok(bytes)
 }
@@ -47,44 +57,35 @@ fn read_pairs(heap: Global, word: &[u8], wanted: Wanted) -> Result<Vec<u8>, Read
 pub fn read_hex(heap: Global, word: &[u8], wanted: Wanted) -> Result<Vec<u8>, ReadError>
     ensures { MatchResult result (λ bytes. word.now ≡ hex_text bytes.items) (λ e. (e ≢ Memory) → (bytes : List ℕ) → Bytes bytes → word.now ≢ hex_text bytes) }
 {
-    if word.is_empty() {
-        return Err(ReadError::Missing(wanted));
-    }
-    if is(word, b"-") {
-        return Ok(Vec::new(heap));
-    }
-    read_pairs(heap, word, wanted)
-}
-
-fn digit_char(digit: u8) -> char
-    requires { digit < 16 }
-    ensures { result ≡ hex_digit digit }
-{
-    if digit < 10 {
-        char::from(b'0' + digit)
-    } else {
-        char::from(b'a' + (digit - 10))
+    match word {
+        [] => Err(wanted.missed(WordError::Missing)),
+        b"-" => Ok(Vec::new(heap)),
+        _ => read_pairs(heap, word, wanted),
     }
 }
 
-fn push_hex(text: &mut String, byte: u8) -> Result<(), AllocError>
-    ensures { OnOk result (string_bytes text.new ≡ string_bytes text.old ++ (hex_digit (byte / 16) ∷ hex_digit (byte % 16) ∷ [])) }
-{
-    text.push(digit_char(byte / 16))?;
-    text.push(digit_char(byte % 16))?;
-    Ok(())
+// Bytes that print as the word that gives them.
+#[derive(Clone, Copy)]
+pub struct Hex<'a>(pub &'a [u8]);
+
+impl fmt::Display for Hex<'_> {
+    ghost output = { λ h. Some (hex_text h.0.now) };
+
+    fn fmt<W: fmt::Write>(&self, f: &mut fmt::Formatter<W>) -> fmt::Result {
+        if self.0.is_empty() {
+            return f.write_str("-");
+        }
+        for &byte in self.0 {
+            write!(f, "{byte:02x}")?;
+        }
+        Ok(())
+    }
 }
 
 // The word that gives these bytes.
 pub fn hex_text(heap: Global, bytes: &[u8]) -> Result<String, AllocError>
     ensures { IfOk result (λ text. string_bytes text ≡ hex_text bytes.now) }
 {
-    if bytes.is_empty() {
-        return String::from_str(heap, "-");
-    }
-    let mut text = String::new(heap);
-    for byte in bytes {
-        push_hex(&mut text, *byte)?;
-    }
-    Ok(text)
+    let word = Hex(bytes);
+    format!(in heap; "{word}")
 }

@@ -1,61 +1,59 @@
 // Numbers in decimal digits, within a range.
-ghost use Rattle.std.specs.Prelude.{◌≡◌, ℕ, ◌<◌, ◌≤◌, drop, ℤ, MatchResult, FitsSigned};
-ghost use Rattle.std.specs.Int.{w32};
-ghost use Rattle.std.specs.Str.Parse.{starts_with_minus};
-ghost use Rattle.notation.specs.Numbers.{Signed, Unsigned};
+ghost use Rattle.std.specs.Prelude.{◌≡◌, ℕ, ◌+◌, ◌-◌, ◌*◌, ◌<◌, ◌≤◌, ℤ, MatchOption, MatchResult, IfErr, FitsSigned};
+ghost use Rattle.std.specs.Int.{w32, IsInRange};
+ghost use Rattle.notation.specs.Numbers.{DigitsError, Signed, SignedError, Unsigned};
 
-use crate::error::{ReadError, Wanted};
+use crate::error::{Shown, WordError};
 
-// The number that the digits from a place on write, if it is at most `most`.
-pub fn read_digits(word: &[u8], from: usize, wanted: Wanted, most: u64) -> Result<u64, ReadError>
-    ensures { MatchResult result (λ n. (n ≤ most) × Unsigned (drop from word.now) n) (λ _. (n : ℕ) → n ≤ most → Unsigned (drop from word.now) n → ⊥) }
+// The number with one more digit, if it is at most `most`.
+fn with_digit(number: u64, digit: u8, most: u64) -> Option<u64>
+    requires { IsInRange 48 57 digit }
+    ensures { MatchOption result (most < number * 10 + (digit - 48)) (λ n. (n ≤ most) × (n ≡ number * 10 + (digit - 48))) }
 {
-    if word.is_empty() {
-        return Err(ReadError::Missing(wanted));
+    let grown = number
+        .checked_mul(10)?
+        .checked_add(u64::from(digit - b'0'))?;
+    (grown <= most).then_some(grown)
+}
+
+// The number that digits write, if it is at most `most`; so many bytes of the word stand before them.
+pub fn read_digits(digits: &[u8], before: usize, most: u64) -> Result<u64, WordError>
+    ensures number { MatchResult result (λ n. (n ≤ most) × Unsigned digits.now n) (λ _. (n : ℕ) → n ≤ most → Unsigned digits.now n → ⊥) }
+    ensures fault { IfErr result (DigitsError digits.now before most) }
+{
+    if digits.is_empty() {
+        return Err(if before == 0 {
+            WordError::Missing
+        } else {
+            WordError::NoDigits
+        });
     }
-    if from >= word.len() {
-        return Err(ReadError::NoDigits(wanted));
-    }
-    let mut number: u64 = 0;
-    for at in from..word.len() {
-        let byte = word[at];
-        if byte < b'0' || byte > b'9' {
-            return Err(ReadError::NoDigit(wanted, at + 1, byte));
+    let mut number = 0;
+    for (at, &byte) in digits.iter().enumerate() {
+        if !byte.is_ascii_digit() {
+            return Err(WordError::NoDigit {
+                place: before.saturating_add(at + 1),
+                found: Shown(byte),
+            });
         }
-        let digit = u64::from(byte - b'0');
-        if digit > most || number > (most - digit) / 10 {
-            return Err(ReadError::OutOfRange(wanted));
-        }
-        number = number * 10 + digit;
+        number = with_digit(number, byte, most).ok_or(WordError::OutOfRange)?;
     }
     Ok(number)
 }
 
-// An unsigned number of at most `most`.
-pub fn read_unsigned(word: &[u8], wanted: Wanted, most: u64) -> Result<u64, ReadError>
-    ensures { MatchResult result (λ n. (n ≤ most) × Unsigned word.now n) (λ _. (n : ℕ) → n ≤ most → Unsigned word.now n → ⊥) }
-{
-    read_digits(word, 0, wanted, most)
-}
-
-fn has_minus(word: &[u8]) -> bool
-    ensures { result ≡ starts_with_minus word.now }
-{
-    if word.is_empty() {
-        return false;
-    }
-    word[0] == b'-'
-}
-
 // A signed number of 32 bits.
-pub fn read_signed(word: &[u8], wanted: Wanted) -> Result<i32, ReadError>
-    ensures { MatchResult result (λ z. Signed word.now z) (λ _. (z : ℤ) → FitsSigned w32 z → Signed word.now z → ⊥) }
+pub fn read_signed(word: &[u8]) -> Result<i32, WordError>
+    ensures number { MatchResult result (λ z. Signed word.now z) (λ _. (z : ℤ) → FitsSigned w32 z → Signed word.now z → ⊥) }
+    ensures fault { IfErr result (SignedError word.now) }
 {
-    if has_minus(word) {
-        let size = read_digits(word, 1, wanted, 2147483648)?;
-        Ok((0 - size as i64) as i32)
-    } else {
-        let size = read_digits(word, 0, wanted, 2147483647)?;
-        Ok(size as i32)
+    match word.strip_prefix(b"-") {
+        Some(digits) => {
+            let size = read_digits(digits, 1, 2147483648)?;
+            Ok(-(size as i64) as i32)
+        }
+        None => {
+            let size = read_digits(word, 0, 2147483647)?;
+            Ok(size as i32)
+        }
     }
 }

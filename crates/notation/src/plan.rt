@@ -5,11 +5,11 @@ use ports::trace::Record;
 #[derive(Drop)]
 pub enum FeedPlan {
     Trace(Vec<Record>),
-    Ramp(i32, i32, u16),
+    Ramp { start: i32, step: i32, count: u16 },
 }
 
 // Where the values go: a strip over so many elements of fresh memory.
-#[derive(Clone, Copy)]
+#[derive(Clone, Copy, Debug, PartialEq, Eq)]
 pub enum StripPlan {
     Records(usize),
     Text(usize),
@@ -25,10 +25,9 @@ pub enum CallPlan {
     Report,
 }
 
-// What one line plans; a line without words plans nothing.
+// What a line with words plans.
 #[derive(Drop)]
 pub enum Line {
-    Nothing,
     Feed(FeedPlan),
     Strip(StripPlan),
     Call(CallPlan),

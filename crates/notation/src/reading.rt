@@ -2,16 +2,16 @@
 ghost use Rattle.std.specs.Prelude.{◌≡◌, ℕ, ◌≤◌, List, [], ◌∷◌, codes, MatchResult, ◌≢◌};
 ghost use Rattle.notation.specs.declared.error.ReadError.TheVariants.{Memory};
 ghost use Rattle.notation.specs.Hex.{Bytes, hex_text};
-ghost use Rattle.notation.specs.Lines.{ReadsBehind};
+ghost use Rattle.notation.specs.Lines.{ReadsBehind, spoken, spoken_feed, spoken_strip};
 ghost use Rattle.notation.specs.Numbers.{Unsigned};
 ghost use Rattle.notation.specs.Words.{Words};
 
 use crate::error::{ReadError, Wanted};
 use crate::hex::read_hex;
-use crate::number::{read_signed, read_unsigned};
+use crate::number::{read_digits, read_signed};
 use crate::plan::{CallPlan, FeedPlan, Line, StripPlan};
 use crate::trace::read_trace;
-use crate::word::{is, next_word};
+use crate::word::next_word;
 use std::alloc::Global;
 
 // No word is left.
@@ -41,112 +41,68 @@ fn last_number(rest: &[u8], wanted: Wanted, most: u64) -> Result<u64, ReadError>
     ensures { MatchResult result (λ n. (n ≤ most) × ((w : List ℕ) × Words rest.now (w ∷ []) × Unsigned w n)) (λ _. (n : ℕ) → n ≤ most → (w : List ℕ) → Words rest.now (w ∷ []) → Unsigned w n → ⊥) }
 {
     let (word, more) = next_word(rest);
-    let number = read_unsigned(word, wanted, most)?;
+    let number = read_digits(word, 0, most).map_err(|error| wanted.missed(error))?;
     end_of_line(more)?;
     Ok(number)
 }
 
-// The readers of lines take what stands behind the first word.
-
-fn read_load(heap: Global, rest: &[u8]) -> Result<Line, ReadError>
-    ensures { ReadsBehind (λ ws. codes "load" ∷ ws) rest.now result }
-{
-    let table = last_bytes(heap, rest, Wanted::Table)?;
-    Ok(Line::Call(CallPlan::Load(table)))
-}
-
-fn read_open(heap: Global, rest: &[u8]) -> Result<Line, ReadError>
-    ensures { ReadsBehind (λ ws. codes "open" ∷ ws) rest.now result }
-{
-    let sheet = last_bytes(heap, rest, Wanted::Sheet)?;
-    Ok(Line::Call(CallPlan::Open(sheet)))
-}
-
-fn read_rewind(rest: &[u8]) -> Result<Line, ReadError>
-    ensures { ReadsBehind (λ ws. codes "rewind" ∷ ws) rest.now result }
-{
-    end_of_line(rest)?;
-    Ok(Line::Call(CallPlan::Rewind))
-}
-
-fn read_run(rest: &[u8]) -> Result<Line, ReadError>
-    ensures { ReadsBehind (λ ws. codes "run" ∷ ws) rest.now result }
-{
-    let fuel = last_number(rest, Wanted::Fuel, 4294967295)?;
-    Ok(Line::Call(CallPlan::Run(fuel as u32)))
-}
-
-fn read_report(rest: &[u8]) -> Result<Line, ReadError>
-    ensures { ReadsBehind (λ ws. codes "report" ∷ ws) rest.now result }
-{
-    end_of_line(rest)?;
-    Ok(Line::Call(CallPlan::Report))
-}
-
-fn read_strip(rest: &[u8]) -> Result<Line, ReadError>
-    ensures { ReadsBehind (λ ws. codes "strip" ∷ ws) rest.now result }
-{
-    let (kind, more) = next_word(rest);
-    if is(kind, b"records") {
-        let records = last_number(more, Wanted::RecordCount, 18446744073709551615)?;
-        return Ok(Line::Strip(StripPlan::Records(records as usize)));
-    }
-    if is(kind, b"text") {
-        let bytes = last_number(more, Wanted::ByteCount, 18446744073709551615)?;
-        return Ok(Line::Strip(StripPlan::Text(bytes as usize)));
-    }
-    Err(ReadError::UnknownStrip)
-}
-
-fn read_ramp(rest: &[u8]) -> Result<Line, ReadError>
-    ensures { ReadsBehind (λ ws. codes "feed" ∷ codes "ramp" ∷ ws) rest.now result }
+fn read_ramp(rest: &[u8]) -> Result<FeedPlan, ReadError>
+    ensures { ReadsBehind spoken_feed (λ ws. codes "feed" ∷ codes "ramp" ∷ ws) rest.now result }
 {
     let (first, second_on) = next_word(rest);
-    let start = read_signed(first, Wanted::Start)?;
+    let start = read_signed(first).map_err(|error| Wanted::Start.missed(error))?;
     let (second, third_on) = next_word(second_on);
-    let step = read_signed(second, Wanted::Step)?;
-    let count = last_number(third_on, Wanted::Count, 65535)?;
-    Ok(Line::Feed(FeedPlan::Ramp(start, step, count as u16)))
+    let step = read_signed(second).map_err(|error| Wanted::Step.missed(error))?;
+    let count = last_number(third_on, Wanted::Count, u16::MAX as u64)? as u16;
+    Ok(FeedPlan::Ramp { start, step, count })
 }
 
-fn read_feed(heap: Global, rest: &[u8]) -> Result<Line, ReadError>
-    ensures { ReadsBehind (λ ws. codes "feed" ∷ ws) rest.now result }
+// What stands behind `feed`.
+fn read_feed(heap: Global, rest: &[u8]) -> Result<FeedPlan, ReadError>
+    ensures { ReadsBehind spoken_feed (λ ws. codes "feed" ∷ ws) rest.now result }
 {
     let (kind, more) = next_word(rest);
-    if is(kind, b"trace") {
-        let records = read_trace(heap, more)?;
-        return Ok(Line::Feed(FeedPlan::Trace(records)));
+    match kind {
+        b"trace" => read_trace(heap, more).map(FeedPlan::Trace),
+        b"ramp" => read_ramp(more),
+        _ => Err(ReadError::UnknownFeed),
     }
-    if is(kind, b"ramp") {
-        return read_ramp(more);
-    }
-    Err(ReadError::UnknownFeed)
 }
 
-// Reads what stands behind any first word.
-pub fn read_behind(heap: Global, verb: &[u8], rest: &[u8]) -> Result<Line, ReadError>
-    ensures { ReadsBehind (λ ws. verb.now ∷ ws) rest.now result }
+// What stands behind `strip`.
+fn read_strip(rest: &[u8]) -> Result<StripPlan, ReadError>
+    ensures { ReadsBehind spoken_strip (λ ws. codes "strip" ∷ ws) rest.now result }
 {
-    if is(verb, b"feed") {
-        return read_feed(heap, rest);
+    let (kind, more) = next_word(rest);
+    match kind {
+        b"records" => last_number(more, Wanted::RecordCount, usize::MAX as u64).map(
+            |n| StripPlan::Records(n as usize),
+        ),
+        b"text" => last_number(more, Wanted::ByteCount, usize::MAX as u64).map(|n| StripPlan::Text(
+            n as usize,
+        )),
+        _ => Err(ReadError::UnknownStrip),
     }
-    if is(verb, b"strip") {
-        return read_strip(rest);
+}
+
+// What stands behind any first word.
+pub fn read_behind(heap: Global, verb: &[u8], rest: &[u8]) -> Result<Line, ReadError>
+    ensures { ReadsBehind spoken (λ ws. verb.now ∷ ws) rest.now result }
+{
+    match verb {
+        b"feed" => read_feed(heap, rest).map(Line::Feed),
+        b"strip" => read_strip(rest).map(Line::Strip),
+        b"load" => last_bytes(heap, rest, Wanted::Table)
+            .map(CallPlan::Load)
+            .map(Line::Call),
+        b"open" => last_bytes(heap, rest, Wanted::Sheet)
+            .map(CallPlan::Open)
+            .map(Line::Call),
+        b"rewind" => end_of_line(rest).map(|()| Line::Call(CallPlan::Rewind)),
+        b"run" => last_number(rest, Wanted::Fuel, u32::MAX as u64)
+            .map(|fuel| CallPlan::Run(fuel as u32))
+            .map(Line::Call),
+        b"report" => end_of_line(rest).map(|()| Line::Call(CallPlan::Report)),
+        _ => Err(ReadError::UnknownLine),
     }
-    if is(verb, b"load") {
-        return read_load(heap, rest);
-    }
-    if is(verb, b"open") {
-        return read_open(heap, rest);
-    }
-    if is(verb, b"rewind") {
-        return read_rewind(rest);
-    }
-    if is(verb, b"run") {
-        return read_run(rest);
-    }
-    if is(verb, b"report") {
-        return read_report(rest);
-    }
-    Err(ReadError::UnknownLine)
 }

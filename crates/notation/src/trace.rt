@@ -1,40 +1,37 @@
 // The items of a trace, each a word: a reading, or a fault as `fault:3`.
-ghost use Rattle.std.specs.Prelude.{◌≡◌, ℕ, List, ◌++◌, drop, codes, Decides, MatchResult, ◌≢◌};
+ghost use Rattle.std.specs.Prelude.{◌≡◌, ℕ, List, MatchResult, ◌≢◌, Some};
 ghost use Rattle.std.specs.List.{AllByRecursion};
 ghost use Rattle.vocabulary.specs.declared.item.Item.{Item};
 ghost use Rattle.ports.specs.Traces.{item_of, items_of};
 ghost use Rattle.notation.specs.declared.error.ReadError.TheVariants.{Memory};
-ghost use Rattle.notation.specs.Lines.{AreItems, IsItem, ItemRange};
+ghost use Rattle.notation.specs.Lines.{AreItems, IsItem, item_word, ItemRange};
 ghost use Rattle.notation.specs.Words.{Words};
 
-use crate::error::{ReadError, Wanted};
+use crate::error::{ReadError, Wanted, WordError};
 use crate::number::{read_digits, read_signed};
 use crate::word::next_word;
 use ports::trace::Record;
 use std::alloc::Global;
-
-fn begins_fault(word: &[u8]) -> bool
-    ensures { Decides result (word.now ≡ codes "fault:" ++ drop 6 word.now) }
-{
-    word.starts_with(b"fault:")
-}
+use std::fmt;
+use vocabulary::item::Item;
 
 // The record of an item, whose number in the trace is for messages.
 fn read_item(word: &[u8], number: usize) -> Result<Record, ReadError>
     ensures { MatchResult result (λ x. IsItem word.now (item_of x)) (λ _. (item : Item) → ItemRange item → IsItem word.now item → ⊥) }
 {
-    if begins_fault(word) {
-        let code = read_digits(word, 6, Wanted::FaultCode(number), 255)?;
-        if code == 0 {
-            return Err(ReadError::OutOfRange(Wanted::FaultCode(number)));
-        }
-        return Ok(Record {
+    let Some(digits) = word.strip_prefix(b"fault:") else {
+        let reading = read_signed(word).map_err(|error| Wanted::Reading(number).missed(error))?;
+        return Ok(Record { code: 0, reading });
+    };
+    let wanted = Wanted::FaultCode(number);
+    match read_digits(digits, 6, 255) {
+        Ok(0) => Err(wanted.missed(WordError::OutOfRange)),
+        Ok(code) => Ok(Record {
             code: code as u8,
             reading: 0,
-        });
+        }),
+        Err(error) => Err(wanted.missed(error)),
     }
-    let reading = read_signed(word, Wanted::Reading(number))?;
-    Ok(Record { code: 0, reading })
 }
 
 pub fn read_trace(heap: Global, line: &[u8]) -> Result<Vec<Record>, ReadError>
@@ -50,5 +47,23 @@ pub fn read_trace(heap: Global, line: &[u8]) -> Result<Vec<Record>, ReadError>
         let record = read_item(word, records.len().saturating_add(1))?;
         records.push(record)?;
         left = more;
+    }
+}
+
+// An item that prints as its word.
+#[derive(Clone, Copy)]
+pub struct AsWord(pub Item);
+
+impl fmt::Display for AsWord {
+    ghost output = { λ i. Some (item_word i.0) };
+
+    fn fmt<W: fmt::Write>(&self, f: &mut fmt::Formatter<W>) -> fmt::Result {
+        match self.0 {
+            Item::Reading(reading) => write!(f, "{reading}"),
+            Item::Fault(fault) => {
+                let code = fault.code;
+                write!(f, "fault:{code}")
+            }
+        }
     }
 }

@@ -1,69 +1,97 @@
-// Writing lines.
-ghost use Rattle.std.specs.Prelude.{◌≡◌, IfOk, string_bytes};
+// Plans print as the lines that say them.
+ghost use Rattle.std.specs.Prelude.{◌≡◌, Some, ◌∷◌, map, decimal};
+ghost use Rattle.std.specs.List.{flat_map};
 ghost use Rattle.ports.specs.Traces.{item_of, items_of};
-ghost use Rattle.notation.specs.Lines.{item_word, line_text, spoken_call, spoken_feed, spoken_strip, trace_feed};
+ghost use Rattle.notation.specs.Lines.{item_word, line_text, spoken, spoken_call, spoken_feed, spoken_strip};
 
-use crate::hex::hex_text;
-use crate::plan::{CallPlan, FeedPlan, StripPlan};
+use crate::hex::Hex;
+use crate::plan::{CallPlan, FeedPlan, Line, StripPlan};
+use crate::trace::AsWord;
 use ports::trace::Record;
-use std::alloc::{AllocError, Global};
+use std::fmt;
+use vocabulary::item::{Fault, Item};
 
-fn item_text(heap: Global, record: Record) -> Result<String, AllocError>
-    ensures { IfOk result (λ text. string_bytes text ≡ item_word (item_of «record»)) }
+// What was recorded, as it waits in a feed.
+fn item(record: Record) -> Item
+    ensures { result ≡ item_of «record» }
 {
-    let code = record.code;
-    let reading = record.reading;
-    if code == 0 {
-        format!(in heap; "{reading}")
-    } else {
-        format!(in heap; "fault:{code}")
+    match record.code {
+        0 => Item::Reading(record.reading),
+        code => Item::Fault(Fault { code }),
     }
 }
 
-fn trace_text(heap: Global, records: &[Record]) -> Result<String, AllocError>
-    ensures { IfOk result (λ text. string_bytes text ≡ line_text (trace_feed (items_of records.now))) }
-{
-    let mut text = String::from_str(heap, "feed trace")?;
-    for record in records {
-        let word = item_text(heap, *record)?;
-        text.push_str(" ")?;
-        text.push_str(word.as_str())?;
-    }
-    Ok(text)
-}
+// Records that print as the words of their items, each behind a blank.
+#[derive(Clone, Copy)]
+struct Items<'a>(&'a [Record]);
 
-pub fn feed_text(heap: Global, plan: &FeedPlan) -> Result<String, AllocError>
-    ensures { IfOk result (λ text. string_bytes text ≡ line_text (spoken_feed plan.now)) }
-{
-    match plan {
-        FeedPlan::Trace(records) => trace_text(heap, records.as_slice()),
-        FeedPlan::Ramp(start, step, count) => format!(in heap; "feed ramp {start} {step} {count}"),
-    }
-}
+impl fmt::Display for Items<'_> {
+    ghost output = { λ i. Some (flat_map (λ w. 32 ∷ w) (map item_word (items_of i.0.now))) };
 
-pub fn strip_text(heap: Global, plan: StripPlan) -> Result<String, AllocError>
-    ensures { IfOk result (λ text. string_bytes text ≡ line_text (spoken_strip plan)) }
-{
-    match plan {
-        StripPlan::Records(records) => format!(in heap; "strip records {records}"),
-        StripPlan::Text(bytes) => format!(in heap; "strip text {bytes}"),
-    }
-}
-
-pub fn call_text(heap: Global, plan: &CallPlan) -> Result<String, AllocError>
-    ensures { IfOk result (λ text. string_bytes text ≡ line_text (spoken_call plan.now)) }
-{
-    match plan {
-        CallPlan::Load(table) => {
-            let hex = hex_text(heap, table.as_slice())?;
-            format!(in heap; "load {hex}")
+    fn fmt<W: fmt::Write>(&self, f: &mut fmt::Formatter<W>) -> fmt::Result {
+        for record in self.0 {
+            let word = AsWord(item(*record));
+            write!(f, " {word}")?;
         }
-        CallPlan::Open(sheet) => {
-            let hex = hex_text(heap, sheet.as_slice())?;
-            format!(in heap; "open {hex}")
+        Ok(())
+    }
+}
+
+impl fmt::Display for FeedPlan {
+    ghost output = { λ plan. Some (line_text (spoken_feed plan)) };
+
+    fn fmt<W: fmt::Write>(&self, f: &mut fmt::Formatter<W>) -> fmt::Result {
+        match self {
+            FeedPlan::Trace(records) => {
+                let items = Items(records.as_slice());
+                write!(f, "feed trace{items}")
+            }
+            FeedPlan::Ramp { start, step, count } => {
+                write!(f, "feed ramp {start} {step} {count}")
+            }
         }
-        CallPlan::Rewind => String::from_str(heap, "rewind"),
-        CallPlan::Run(fuel) => format!(in heap; "run {fuel}"),
-        CallPlan::Report => String::from_str(heap, "report"),
+    }
+}
+
+impl fmt::Display for StripPlan {
+    ghost output = { λ plan. Some (line_text (spoken_strip plan)) };
+
+    fn fmt<W: fmt::Write>(&self, f: &mut fmt::Formatter<W>) -> fmt::Result {
+        match self {
+            StripPlan::Records(records) => write!(f, "strip records {records}"),
+            StripPlan::Text(bytes) => write!(f, "strip text {bytes}"),
+        }
+    }
+}
+
+impl fmt::Display for CallPlan {
+    ghost output = { λ plan. Some (line_text (spoken_call plan)) };
+
+    fn fmt<W: fmt::Write>(&self, f: &mut fmt::Formatter<W>) -> fmt::Result {
+        match self {
+            CallPlan::Load(table) => {
+                let hex = Hex(table.as_slice());
+                write!(f, "load {hex}")
+            }
+            CallPlan::Open(sheet) => {
+                let hex = Hex(sheet.as_slice());
+                write!(f, "open {hex}")
+            }
+            CallPlan::Rewind => f.write_str("rewind"),
+            CallPlan::Run(fuel) => write!(f, "run {fuel}"),
+            CallPlan::Report => f.write_str("report"),
+        }
+    }
+}
+
+impl fmt::Display for Line {
+    ghost output = { λ line. Some (line_text (spoken line)) };
+
+    fn fmt<W: fmt::Write>(&self, f: &mut fmt::Formatter<W>) -> fmt::Result {
+        match self {
+            Line::Feed(plan) => write!(f, "{plan}"),
+            Line::Strip(plan) => write!(f, "{plan}"),
+            Line::Call(plan) => write!(f, "{plan}"),
+        }
     }
 }

@@ -1,15 +1,11 @@
-use Rattle.std.proofs.Common.{[], ◌∷◌, refl, subst}
-use Rattle.notation.specs.Lines.{ReadsBehind}
-use Rattle.notation.specs.Words.{word}
-use Rattle.notation.proofs.Behind.{line_read}
-use Rattle.notation.proofs.Cutting.{word_none, word_some}
+use Rattle.std.proofs.Common.{rules, sym, refl}
+use Rattle.notation.specs.Lines.{said, spoken}
+use Rattle.notation.proofs.Behind.{line_read, mapped, reads_on}
+use Rattle.notation.proofs.Cutting.{word_some}
 use Rattle.notation.proofs.line.read_line.Goals as goal
 
-pub returns-then-is_empty : goal.returns-then-is_empty
-returns-then-is_empty c = ([], word_none c.next_word.result.0.now _ c.next_word.ensures.first c.if-is_empty.ensures, refl)
-
-pub returns : goal.returns
-returns c =
-    let line = c.args.line.now in
-    line_read line (word_some c.next_word.result.0.now (word line) c.next_word.ensures.first c.if-is_empty.ensures) c.read_behind.result
-    (subst (λ t. ReadsBehind (λ ws. word line ∷ ws) t c.read_behind.result) c.next_word.ensures.second (subst (λ v. ReadsBehind (λ ws. v ∷ ws) c.next_word.result.1.now c.read_behind.result) c.next_word.ensures.first c.read_behind.ensures))
+pub returns-clause-said : goal.returns-clause-said
+returns-clause-said c =
+    let verb = c.next_word.result.0.now in
+    let behind = mapped spoken said _ _ c.read_behind.result c.map.result c.map.ensures.cases (λ x y p. search rules) c.read_behind.ensures in
+    line_read c.args.line.now c.map.result (reads_on said c.args.line.now c.next_word.result.1.now (λ ws. ws) verb (sym c.next_word.ensures.first) c.next_word.ensures.second (word_some verb verb refl c.if-is_empty.ensures) c.map.result behind)
