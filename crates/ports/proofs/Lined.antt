@@ -1,11 +1,10 @@
 -- What one more line makes of a text strip.
-use Rattle.std.proofs.Common.{◌≡◌, ℕ, ◌+◌, ◌-◌, ◌≤◌, List, ◌++◌, length, take, drop, sym, ap, ◌∙◌, append_assoc, arith}
+use Rattle.std.proofs.Common.{◌≡◌, ℕ, ◌+◌, ◌-◌, ◌≤◌, List, ◌++◌, Ok, Err, Result, length, take, drop, sym, ap, ◌∙◌, append_assoc, arith}
 use Rattle.std.specs.Borrow.{MutBor}
 use lib.Seq.{paste, take-paste}
 use Rattle.std.proofs.lemmas.List.{take_all, take_at, drop_at, length-take-le, length-append, length-drop}
 use Rattle.vocabulary.specs.declared.value.Plain.{Plain}
-use Rattle.ports.specs.declared.strip.Placed.{Placed}
-use Rattle.ports.specs.declared.strip.Placed.TheVariants.{Done, Full}
+use Rattle.ports.specs.declared.strip.StripFull.{StripFull}
 use Rattle.ports.specs.Kept.{Kept}
 use Rattle.ports.specs.Lines.{line_of, text_of, values_in, Whole, Added, line_length}
 use Rattle.ports.specs.Strips.{Put}
@@ -38,8 +37,8 @@ module _ (earlier later : MutBor (List ℕ)) (used filled : ℕ) (v : Plain) (li
         let d = length-drop filled earlier.now in
         ap length join ∙ (omega arith)
 
-  line-put : (r : Placed) → Added earlier later used filled line r → Put (line_length v) v (values_in (take used earlier.now)) (length earlier.now - used) (values_in (take filled later.now)) (length later.now - filled) r
-  line-put Done a =
+  line-put : (r : Result (Unit {0}) StripFull) → Added earlier later used filled line r → Put (line_length v) v (values_in (take used earlier.now)) (length earlier.now - used) (values_in (take filled later.now)) (length later.now - filled) r
+  line-put (Ok done) a =
       let size : line_length v ≡ length line = ap length (sym is) in
       let long = long_is a.1 a.3 a.0 in
       let k = a.1 in
@@ -48,7 +47,7 @@ module _ (earlier later : MutBor (List ℕ)) (used filled : ℕ) (v : Plain) (li
         ap values_in (front_is a.1 a.3 ∙ ap (λ t. take used earlier.now ++ t) is) ∙ values_more (take used earlier.now) v small whole,
         omega arith,
       )
-  line-put Full a =
+  line-put (Err full) a =
       let size : line_length v ≡ length line = ap length (sym is) in
       let h = a.0 in
       let k = a.1 in
@@ -58,14 +57,14 @@ module _ (earlier later : MutBor (List ℕ)) (used filled : ℕ) (v : Plain) (li
         omega arith,
       )
 
-  line_kept : (r : Placed) → Added earlier later used filled line r → Kept earlier later (text_of (values_in (take used earlier.now))) (text_of (values_in (take filled later.now)))
-  line_kept Done a =
+  line_kept : (r : Result (Unit {0}) StripFull) → Added earlier later used filled line r → Kept earlier later (text_of (values_in (take used earlier.now))) (text_of (values_in (take filled later.now)))
+  line_kept (Ok done) a =
       let k = a.1 in
       let h = a.0 in
       kept-grown earlier later used filled _ _ a.2 (long_is a.1 a.3 a.0) (omega arith) (omega arith) whole after (back_is a.1 a.3)
-  line_kept Full a =
+  line_kept (Err full) a =
       let k = a.1 in
       kept-grown earlier later used filled _ _ (ap (λ x. x.ghost_name) a.2) (ap (λ x. length x.now) a.2) (omega arith) (omega arith) whole after (ap (λ x. drop filled x.now) a.2)
 
-  pub line-placed : (r : Placed) → Added earlier later used filled line r → Put (line_length v) v (values_in (take used earlier.now)) (length earlier.now - used) (values_in (take filled later.now)) (length later.now - filled) r × Kept earlier later (text_of (values_in (take used earlier.now))) (text_of (values_in (take filled later.now)))
+  pub line-placed : (r : Result (Unit {0}) StripFull) → Added earlier later used filled line r → Put (line_length v) v (values_in (take used earlier.now)) (length earlier.now - used) (values_in (take filled later.now)) (length later.now - filled) r × Kept earlier later (text_of (values_in (take used earlier.now))) (text_of (values_in (take filled later.now)))
   line-placed r a = (line-put r a, line_kept r a)

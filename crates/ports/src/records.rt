@@ -3,10 +3,12 @@ ghost use Rattle.ports.specs.Records.{record_of, records_of, values_of, one};
 ghost use Rattle.ports.specs.Kept.{Kept};
 ghost use Rattle.ports.specs.Laws.{one_costs, kept-stays, kept_goes};
 
-use crate::strip::{Placed, Strip};
+use crate::strip::{Strip, StripFull};
 use vocabulary::value::Plain;
 
-// A value as a record: sort 0 is a number, sort 1 a truth, which is 0 or 1.
+// A value as a record: sort 0 is a number, sort 1 a truth, which is 0 or 1. The sort stays a number, since C lays the
+// record out so.
+#[repr(C)]
 #[derive(Clone, Copy)]
 pub struct OutRecord {
     pub sort: u8,
@@ -22,13 +24,17 @@ pub struct RecordStrip<'a> {
     ghost written: { records_of (values_of (take used records.now)) ≡ take used records.now },
 }
 
-fn record_of(value: Plain) -> OutRecord
-    ensures { result ≡ record_of value }
-{
-    match value {
-        Plain::Number(number) => OutRecord { sort: 0, number },
-        Plain::Truth(true) => OutRecord { sort: 1, number: 1 },
-        Plain::Truth(false) => OutRecord { sort: 1, number: 0 },
+impl From<Plain> for OutRecord {
+    ghost from_gives = { λ value r. r ≡ record_of value };
+
+    fn from(value: Plain) -> OutRecord {
+        match value {
+            Plain::Number(number) => OutRecord { sort: 0, number },
+            Plain::Truth(truth) => OutRecord {
+                sort: 1,
+                number: truth.into(),
+            },
+        }
     }
 }
 
@@ -65,14 +71,14 @@ impl<'a> Strip for RecordStrip<'a> {
 
     ghost goes = { λ s t u h k. kept_goes s.records t.records u.records _ _ _ h k };
 
-    fn put(&mut self, value: Plain) -> Placed {
+    fn put(&mut self, value: Plain) -> Result<(), StripFull> {
         let used = self.used;
         if used < self.records.len() {
-            self.records[used] = record_of(value);
+            self.records[used] = value.into();
             self.used = used + 1;
-            Placed::Done
+            Ok(())
         } else {
-            Placed::Full
+            Err(StripFull)
         }
     }
 }

@@ -5,7 +5,7 @@ ghost use Rattle.ports.specs.Kept.{Kept};
 ghost use Rattle.ports.specs.Laws.{line_costs, kept-stays, kept_goes};
 ghost use Rattle.ports.specs.Lines.{Added, Whole, line_length, line_of, text_of, values_in};
 
-use crate::strip::{Placed, Strip};
+use crate::strip::{Strip, StripFull};
 use vocabulary::value::Plain;
 
 // A strip that fills bytes of the caller's memory with lines of text; the first `used` are filled.
@@ -74,7 +74,7 @@ impl<'a> TextStrip<'a> {
     }
 
     // Adds a line, if there is room for it.
-    fn add(&mut self, line: &[u8]) -> Placed
+    fn add(&mut self, line: &[u8]) -> Result<(), StripFull>
         requires { Whole line.now }
         ensures added { Added self.old.bytes self.new.bytes self.old.used self.new.used line.now result }
     {
@@ -85,9 +85,9 @@ impl<'a> TextStrip<'a> {
                 self.bytes[used + i] = line[i];
             }
             self.used = used + n;
-            Placed::Done
+            Ok(())
         } else {
-            Placed::Full
+            Err(StripFull)
         }
     }
 }
@@ -107,7 +107,7 @@ impl<'a> Strip for TextStrip<'a> {
 
     ghost goes = { λ s t u h k. kept_goes s.bytes t.bytes u.bytes _ _ _ h k };
 
-    fn put(&mut self, value: Plain) -> Placed {
+    fn put(&mut self, value: Plain) -> Result<(), StripFull> {
         match value {
             Plain::Number(number) => {
                 let mut buffer = [0; 12];

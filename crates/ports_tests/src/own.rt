@@ -4,7 +4,7 @@ ghost use Rattle.ports.specs.Records.{one};
 ghost use Rattle.ports_tests.specs.Own.{item_in, item_lawful, value_in, places_in};
 
 use ports::feed::Feed;
-use ports::strip::{Placed, Strip};
+use ports::strip::{Strip, StripFull};
 use vocabulary::item::Item;
 use vocabulary::value::Plain;
 
@@ -49,12 +49,12 @@ impl Strip for Slot {
 
     ghost goes = { λ s t u h k. tt };
 
-    fn put(&mut self, value: Plain) -> Placed {
+    fn put(&mut self, value: Plain) -> Result<(), StripFull> {
         match self.value {
-            Some(_) => Placed::Full,
+            Some(_) => Err(StripFull),
             None => {
                 self.value = Some(value);
-                Placed::Done
+                Ok(())
             }
         }
     }

@@ -1,7 +1,7 @@
 use ports::copy::{Stop, copy_to_text};
 use ports::feed::Feed;
 use ports::ramp::Ramp;
-use ports::strip::{Placed, Strip};
+use ports::strip::{Strip, StripFull};
 use ports::text::TextStrip;
 use ports::trace::{Record, Trace};
 use std::process::Abort;
@@ -15,14 +15,11 @@ fn writes_in(rt: &impl Abort, memory: &mut [u8], value: Plain, line: &[u8]) {
     assert!(rt; 1 <= length && length <= memory.len());
     assert_eq!(rt;
         TextStrip::new(&mut memory[0..length - 1]).put(value),
-        Placed::Full
+        Err(StripFull)
     );
     assert_eq!(rt; memory[length - 1], b'.');
     assert_eq!(rt; memory[0], b'.');
-    assert_eq!(rt;
-        TextStrip::new(&mut memory[0..length]).put(value),
-        Placed::Done
-    );
+    assert_eq!(rt; TextStrip::new(&mut memory[0..length]).put(value), Ok(()));
     assert_eq!(rt; &memory[0..length], line);
 }
 
@@ -134,7 +131,7 @@ fn copies_until_a_fault(rt: HostRuntime) -> Result<(), Fail> {
     ];
     let mut trace = Trace::new(&records);
     let mut bytes = [b'.'; 8];
-    let Stop::Fault(fault) = copy_to_text(&mut trace, &mut bytes, 9) else {
+    let Err(Stop::Fault(fault)) = copy_to_text(&mut trace, &mut bytes, 9) else {
         return Err(Fail::new("no fault"));
     };
     assert_eq!(rt; fault.code, 3);

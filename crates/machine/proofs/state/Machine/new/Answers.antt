@@ -1,12 +1,9 @@
-use Rattle.std.proofs.Common.{refl, rules}
-use Rattle.vocabulary.specs.Tables.{stack, front}
-use Rattle.machine.specs.Links.{chain, chains, linked, nested}
+use Rattle.machine.proofs.Linking.{nested_none}
+use Rattle.machine.proofs.Turning.{blank_seen}
 use Rattle.machine.proofs.state.Machine.new.Goals as goal
 
 pub invariant_of-result : goal.invariant_of-result
-unfolding stack linked nested
-invariant_of-result c = record { valued = search rules; celled = search rules; entered = search rules; framed = search rules; older = refl; inner = refl }
+invariant_of-result c = record { inner = nested_none _ _ _ c.new-3.ensures.entries c.new-3.ensures.env c.new-4.ensures }
 
 pub returns : goal.returns
-unfolding stack front chain chains
-returns c = refl
+returns c = blank_seen _ _ _ _ _ c.new.ensures c.new-2.ensures c.new-3.ensures.entries c.new-4.ensures

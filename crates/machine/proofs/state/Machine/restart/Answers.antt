@@ -1,12 +1,9 @@
-use Rattle.std.proofs.Common.{refl, rules}
-use Rattle.vocabulary.specs.Tables.{stack, front}
-use Rattle.machine.specs.Links.{chain, chains, linked, nested}
+use Rattle.machine.proofs.Linking.{nested_none}
+use Rattle.machine.proofs.Turning.{blank_seen}
 use Rattle.machine.proofs.state.Machine.restart.Goals as goal
 
 pub invariant_of-self : goal.invariant_of-self
-unfolding stack linked nested
-invariant_of-self c = record { valued = search rules; celled = search rules; entered = search rules; framed = search rules; older = refl; inner = refl }
+invariant_of-self c = record { inner = nested_none _ _ _ c.clear-3.ensures.entries c.clear-3.ensures.env c.clear-4.ensures }
 
 pub returns : goal.returns
-unfolding stack front chain chains
-returns c = refl
+returns c = blank_seen _ _ _ _ _ c.clear.ensures c.clear-2.ensures c.clear-3.ensures.entries c.clear-4.ensures

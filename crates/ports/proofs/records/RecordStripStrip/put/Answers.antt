@@ -9,15 +9,15 @@ pub invariant_of-self : goal.invariant_of-self
 invariant_of-self c =
     let s = c.args.self.now in
     let h = c.if-used-self.true in
-    let l = length-set s.records.now s.used c.record_of.result in
-    record { within = omega arith; written = fill_written s.records.now s.used c.args.value c.record_of.result c.record_of.ensures h s.written }
+    let l = length-set s.records.now s.used c.into.result in
+    record { within = omega arith; written = fill_written s.records.now s.used c.args.value c.into.result c.into.ensures h s.written }
 
 pub returns-then-used-self : goal.returns-then-used-self
 returns-then-used-self c =
     let s = c.args.self.now in
     let xs = s.records.now in
-    let x = c.record_of.result in
-    let is = c.record_of.ensures in
+    let x = c.into.result in
+    let is = c.into.ensures in
     let h = c.if-used-self.true in
     record {
       answer = (omega arith, fill_held xs s.used c.args.value x is h, fill_left xs s.used c.args.value x is h);
