@@ -38,10 +38,10 @@ pub struct Outcome {
     pub filled: usize,
 }
 
-impl Checked {
-    pub(crate) fn of<T: Drop>(res: Result<T, Refusal>) -> Checked
-        ensures { result ≡ checked_of res }
-    {
+impl<T: Drop> From<Result<T, Refusal>> for Checked {
+    ghost from_gives = { λ res checked. checked ≡ checked_of res };
+
+    fn from(res: Result<T, Refusal>) -> Checked {
         match res {
             Ok(_) => Checked {
                 refusal: 0,
@@ -55,10 +55,10 @@ impl Checked {
     }
 }
 
-impl Written {
-    pub(crate) fn of(res: Result<usize, Refusal>) -> Written
-        ensures { result ≡ written_of res }
-    {
+impl From<Result<usize, Refusal>> for Written {
+    ghost from_gives = { λ res written. written ≡ written_of res };
+
+    fn from(res: Result<usize, Refusal>) -> Written {
         match res {
             Ok(length) => Written {
                 refusal: 0,

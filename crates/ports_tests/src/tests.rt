@@ -1,4 +1,4 @@
-use ports::copy::{Stop, copy_to_text};
+use ports::copy::{Stop, copy_into};
 use ports::feed::Feed;
 use ports::ramp::Ramp;
 use ports::strip::{Strip, StripFull};
@@ -131,7 +131,7 @@ fn copies_until_a_fault(rt: HostRuntime) -> Result<(), Fail> {
     ];
     let mut trace = Trace::new(&records);
     let mut bytes = [b'.'; 8];
-    let Err(Stop::Fault(fault)) = copy_to_text(&mut trace, &mut bytes, 9) else {
+    let Err(Stop::Fault(fault)) = copy_into(&mut trace, &mut bytes, 9) else {
         return Err(Fail::new("no fault"));
     };
     assert_eq!(rt; fault.code, 3);
