@@ -2,10 +2,11 @@
 ghost use Rattle.std.specs.Prelude.{◌≡◌, ◌≢◌, IfSome, IsNone, ℕ, ◌<◌, ◌≤◌, true, length, slice_index, IfOk, IfErr, Ok, Err};
 ghost use Rattle.std.specs.List.{list_all};
 ghost use Rattle.language.specs.Fields.{admits, formed, is_of, children};
+ghost use Rattle.language.specs.Kinds.{kind_number};
 ghost use Rattle.language.specs.Table.{at, lower, fitting, times, children_in, root_of};
 ghost use Rattle.language.specs.Verdicts.{node_verdict, parent_verdict, root_verdict, upward, shape_verdict, tree_verdict};
 
-use crate::kind::{ChildField, Field, Kind, Sort};
+use crate::kind::{ChildField, Field, Kind, Sort, UnknownKind};
 use crate::rules::children;
 use vocabulary::node::Node;
 use vocabulary::refusal::{Cause, Refusal};
@@ -24,6 +25,24 @@ impl<'a> Shaped<'a> {
         ensures { result.now ≡ self.entry.nodes.now }
     {
         self.nodes
+    }
+
+    // The number of the root, which is the last node.
+    pub fn root(self) -> u16
+        ensures { result ≡ root_of self.entry.nodes.now }
+    {
+        (self.nodes.len() - 1) as u16
+    }
+
+    // The kind of a node.
+    pub fn kind(self, n: u16) -> Kind
+        requires { n < length self.nodes.now }
+        ensures { kind_number result ≡ (at self.entry.nodes.now n).kind }
+    {
+        match Kind::try_from(self.nodes[usize::from(n)].kind) {
+            Ok(kind) => kind,
+            Err(UnknownKind) => unreachable!(),
+        }
     }
 }
 

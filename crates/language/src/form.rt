@@ -16,12 +16,5 @@ pub fn number_in(node: Node) -> i32
 pub fn operation_in(node: Node) -> Operation
     ensures { result ≡ operation_of node.tag }
 {
-    match node.tag {
-        1 => Operation::Sum,
-        2 => Operation::Difference,
-        3 => Operation::Product,
-        4 => Operation::Quotient,
-        5 => Operation::Equal,
-        _ => Operation::Less,
-    }
+    Operation::try_from(node.tag).unwrap_or(Operation::Less)
 }
