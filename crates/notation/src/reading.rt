@@ -53,7 +53,7 @@ fn read_ramp(rest: &[u8]) -> Result<FeedPlan, ReadError>
     let start = read_signed(first).map_err(|error| Wanted::Start.missed(error))?;
     let (second, third_on) = next_word(second_on);
     let step = read_signed(second).map_err(|error| Wanted::Step.missed(error))?;
-    let count = last_number(third_on, Wanted::Count, 65535)? as u16;
+    let count = last_number(third_on, Wanted::Count, u16::MAX as u64)? as u16;
     Ok(FeedPlan::Ramp { start, step, count })
 }
 
@@ -75,12 +75,12 @@ fn read_strip(rest: &[u8]) -> Result<StripPlan, ReadError>
 {
     let (kind, more) = next_word(rest);
     match kind {
-        b"records" => last_number(more, Wanted::RecordCount, 18446744073709551615).map(
+        b"records" => last_number(more, Wanted::RecordCount, u64::MAX).map(
             |records| StripPlan::Records(records as usize),
         ),
-        b"text" => last_number(more, Wanted::ByteCount, 18446744073709551615).map(
-            |bytes| StripPlan::Text(bytes as usize),
-        ),
+        b"text" => last_number(more, Wanted::ByteCount, u64::MAX).map(|bytes| StripPlan::Text(
+            bytes as usize,
+        )),
         _ => Err(ReadError::UnknownStrip),
     }
 }
@@ -92,16 +92,16 @@ pub fn read_behind(heap: Global, verb: &[u8], rest: &[u8]) -> Result<Line, ReadE
     match verb {
         b"feed" => read_feed(heap, rest).map(Line::Feed),
         b"strip" => read_strip(rest).map(Line::Strip),
-        b"load" => last_bytes(heap, rest, Wanted::Table).map(|table| Line::Call(CallPlan::Load(
-            table,
-        ))),
-        b"open" => last_bytes(heap, rest, Wanted::Sheet).map(|sheet| Line::Call(CallPlan::Open(
-            sheet,
-        ))),
+        b"load" => last_bytes(heap, rest, Wanted::Table)
+            .map(CallPlan::Load)
+            .map(Line::Call),
+        b"open" => last_bytes(heap, rest, Wanted::Sheet)
+            .map(CallPlan::Open)
+            .map(Line::Call),
         b"rewind" => end_of_line(rest).map(|()| Line::Call(CallPlan::Rewind)),
-        b"run" => last_number(rest, Wanted::Fuel, 4294967295).map(|fuel| Line::Call(CallPlan::Run(
-            fuel as u32,
-        ))),
+        b"run" => last_number(rest, Wanted::Fuel, u32::MAX as u64)
+            .map(|fuel| CallPlan::Run(fuel as u32))
+            .map(Line::Call),
         b"report" => end_of_line(rest).map(|()| Line::Call(CallPlan::Report)),
         _ => Err(ReadError::UnknownLine),
     }

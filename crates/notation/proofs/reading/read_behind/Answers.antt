@@ -1,6 +1,6 @@
 use Rattle.std.proofs.Common.{◌≡◌, ◌∷◌, rules, vec_items, codes, sym, subst, arith}
 use Rattle.std.proofs.lemmas.Slice.Eq.{text_from_reads}
-use Rattle.notation.specs.Lines.{ReadsBehind, loads, opens, rewinds, runs, reports, spoken, spoken_feed, spoken_strip}
+use Rattle.notation.specs.Lines.{ReadsBehind, loads, opens, rewinds, runs, reports, spoken, spoken_call, spoken_feed, spoken_strip}
 use Rattle.notation.proofs.Behind.{mapped, load_read, open_read, rewind_read, run_read, report_read, at_verb, line-unknown}
 use Rattle.notation.proofs.reading.read_behind.Goals as goal
 
@@ -17,12 +17,14 @@ returns-in-strip c =
 pub returns-in-load : goal.returns-in-load
 returns-in-load c =
     let e : c.args.verb.now ≡ codes "load" = text_from_reads c.args.verb.now (codes "load") (omega arith) (search rules) in
-    at_verb _ _ _ _ e (mapped (λ v. loads (vec_items v)) spoken _ _ c.last_bytes.result c.map-in-load.result c.map-in-load.ensures.cases (λ x y p. search rules) (load_read _ _ c.last_bytes.ensures))
+    let call = mapped (λ v. loads (vec_items v)) spoken_call _ _ c.last_bytes.result c.map-in-load.result c.map-in-load.ensures.cases (λ x y p. search rules) (load_read _ _ c.last_bytes.ensures) in
+    at_verb _ _ _ _ e (mapped spoken_call spoken _ _ c.map-in-load.result c.map-in-load-2.result c.map-in-load-2.ensures.cases (λ x y p. search rules) call)
 
 pub returns-in-open : goal.returns-in-open
 returns-in-open c =
     let e : c.args.verb.now ≡ codes "open" = text_from_reads c.args.verb.now (codes "open") (omega arith) (search rules) in
-    at_verb _ _ _ _ e (mapped (λ v. opens (vec_items v)) spoken _ _ c.last_bytes-in-open.result c.map-in-open.result c.map-in-open.ensures.cases (λ x y p. search rules) (open_read _ _ c.last_bytes-in-open.ensures))
+    let call = mapped (λ v. opens (vec_items v)) spoken_call _ _ c.last_bytes-in-open.result c.map-in-open.result c.map-in-open.ensures.cases (λ x y p. search rules) (open_read _ _ c.last_bytes-in-open.ensures) in
+    at_verb _ _ _ _ e (mapped spoken_call spoken _ _ c.map-in-open.result c.map-in-open-2.result c.map-in-open-2.ensures.cases (λ x y p. search rules) call)
 
 pub returns-in-rewind : goal.returns-in-rewind
 returns-in-rewind c =
@@ -32,7 +34,8 @@ returns-in-rewind c =
 pub returns-in-run : goal.returns-in-run
 returns-in-run c =
     let e : c.args.verb.now ≡ codes "run" = text_from_reads c.args.verb.now (codes "run") (omega arith) (search rules) in
-    at_verb _ _ _ _ e (mapped runs spoken _ _ c.last_number.result c.map.result c.map.ensures.cases (λ x y p. search rules) (run_read _ _ c.last_number.ensures))
+    let call = mapped runs spoken_call _ _ c.last_number.result c.map.result c.map.ensures.cases (λ x y p. search rules) (run_read _ _ c.last_number.ensures) in
+    at_verb _ _ _ _ e (mapped spoken_call spoken _ _ c.map.result c.map-in-run.result c.map-in-run.ensures.cases (λ x y p. search rules) call)
 
 pub returns-in-report : goal.returns-in-report
 returns-in-report c =

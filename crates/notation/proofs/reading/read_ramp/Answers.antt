@@ -1,8 +1,16 @@
-use Rattle.std.proofs.Common.{◌≡◌, sym, subst, w32, SFits, rules}
+use Rattle.std.proofs.Common.{◌≡◌, [], ◌∷◌, sym, ap, ◌∙◌, subst, arith, w32, SFits, rules}
 use Rattle.std.proofs.lemmas.Int.{to_z-of_z}
+use Rattle.std.proofs.lemmas.Result.{err_from_is_err_and}
+use Rattle.notation.specs.Words.{Words, behind}
 use Rattle.notation.specs.Numbers.{Signed}
-use Rattle.notation.proofs.Behind.{ramp_said}
+use Rattle.notation.proofs.Behind.{ramp_bad, ramp_said}
 use Rattle.notation.proofs.reading.read_ramp.Goals as goal
+
+pub returns-in_err-count : goal.returns-in_err-count
+returns-in_err-count c =
+    let p = err_from_is_err_and c.from_residual-in_err-count.result c.from_residual-in_err-count.ensures.1 in
+    let third : c.next_word-2.result.1.now ≡ behind (behind c.args.rest.now) = c.next_word-2.ensures.second ∙ ap behind c.next_word.ensures.second in
+    rw p.1 (λ _. ramp_bad c.args.rest.now (λ start step count f g h q. c.in_err-count.ensures count (omega arith) q.2 (subst (λ t. Words t (q.2 ∷ [])) (sym third) q.3.2.2) q.6))
 
 pub returns : goal.returns
 returns c =
