@@ -1,22 +1,43 @@
 // Work between a feed and a strip that are planned, and what it leaves there.
 use notation::plan::{FeedPlan, StripPlan};
 use ports::feed::Feed;
+use ports::lent::{Element, LentStrip};
 use ports::ramp::Ramp;
-use ports::records::{OutRecord, RecordStrip};
+use ports::records::OutRecord;
 use ports::strip::Strip;
-use ports::text::TextStrip;
 use ports::trace::Trace;
 use std::alloc::{AllocError, Global};
-use std::io;
 use vocabulary::item::Item;
 use vocabulary::refusal::Refusal;
 
-// What is done between a feed and a strip of any kind.
+// What is done between a feed and a strip of any kind, and what it answers. It is no closure, since it is generic over both.
 pub trait Job {
-    fn work<F: Feed, S: Strip>(&mut self, feed: &mut F, strip: &mut S) -> io::Result<()>;
+    type Answer: Drop;
+    type Error: From<AllocError> + Drop;
+
+    fn work<F: Feed, S: Strip>(
+        &self,
+        feed: &mut F,
+        strip: &mut S,
+    ) -> Result<Self::Answer, Self::Error>;
 }
 
-// The part of a strip's memory that is filled.
+// Why work was not carried out.
+#[derive(Drop)]
+pub enum CarryError<E> {
+    // the ramp is refused, and nothing was done
+    Refused(Refusal),
+    // the work, or the memory for it, failed
+    Failed(E),
+}
+
+impl<E> From<Refusal> for CarryError<E> {
+    fn from(refusal: Refusal) -> CarryError<E> {
+        CarryError::Refused(refusal)
+    }
+}
+
+// The part of a strip's memory that is filled. The plan says which of the two strips it is.
 #[derive(Drop)]
 pub enum Filled {
     Records(Vec<OutRecord>),
@@ -31,90 +52,84 @@ pub struct Left {
     pub space: usize,
 }
 
+// What work answered, and what it left.
+#[derive(Drop)]
+pub struct Outcome<T> {
+    pub answer: T,
+    pub left: Left,
+}
+
+// The items that wait, all of them.
 fn drain<F: Feed>(heap: Global, feed: &mut F) -> Result<Vec<Item>, AllocError> {
     let mut items = Vec::new(heap);
-    for _ in 0..u64::MAX {
-        let Some(item) = feed.take() else {
-            break;
-        };
+    while let Some(item) = feed.take() {
         items.push(item)?;
     }
     Ok(items)
 }
 
-fn onto_records<F: Feed, J: Job>(
+// Has the job work onto a strip over `size` elements, and gives what it answers, and the elements that are filled then.
+fn onto<T: Element, F: Feed, J: Job>(
     heap: Global,
-    job: &mut J,
+    job: &J,
     feed: &mut F,
+    blank: T,
     size: usize,
-) -> io::Result<Left> {
-    let empty = OutRecord { sort: 0, number: 0 };
-    let mut memory = vec![in heap; empty; size]?;
-    let used = {
-        let mut strip = RecordStrip::new(memory.as_mut_slice());
-        job.work(feed, &mut strip)?;
-        strip.used()
+) -> Result<(J::Answer, Vec<T>), J::Error> {
+    let mut memory = vec![in heap; blank; size]?;
+    let (answer, used) = {
+        let mut strip = LentStrip::new(memory.as_mut_slice());
+        (job.work(feed, &mut strip)?, strip.used())
     };
     memory.truncate(used);
-    let space = size.saturating_sub(used);
-    Ok(Left {
-        items: drain(heap, feed)?,
-        filled: Filled::Records(memory),
-        space,
-    })
+    Ok((answer, memory))
 }
 
-fn onto_text<F: Feed, J: Job>(
-    heap: Global,
-    job: &mut J,
-    feed: &mut F,
-    size: usize,
-) -> io::Result<Left> {
-    let mut memory = vec![in heap; 0u8; size]?;
-    let used = {
-        let mut strip = TextStrip::new(memory.as_mut_slice());
-        job.work(feed, &mut strip)?;
-        strip.used()
-    };
-    memory.truncate(used);
-    let space = size.saturating_sub(used);
-    Ok(Left {
-        items: drain(heap, feed)?,
-        filled: Filled::Text(memory),
-        space,
-    })
-}
-
+// The same onto the strip that is planned, with what is left in the feed.
 fn onto_strip<F: Feed, J: Job>(
     heap: Global,
-    job: &mut J,
+    job: &J,
     feed: &mut F,
     strip: StripPlan,
-) -> io::Result<Left> {
-    match strip {
-        StripPlan::Records(size) => onto_records(heap, job, feed, size),
-        StripPlan::Text(size) => onto_text(heap, job, feed, size),
-    }
+) -> Result<Outcome<J::Answer>, J::Error> {
+    let (answer, filled, space) = match strip {
+        StripPlan::Records(size) => {
+            let blank = OutRecord { sort: 0, number: 0 };
+            let (answer, records) = onto(heap, job, feed, blank, size)?;
+            let space = size.saturating_sub(records.len());
+            (answer, Filled::Records(records), space)
+        }
+        StripPlan::Text(size) => {
+            let (answer, text) = onto(heap, job, feed, 0u8, size)?;
+            let space = size.saturating_sub(text.len());
+            (answer, Filled::Text(text), space)
+        }
+    };
+    let items = drain(heap, feed)?;
+    let left = Left {
+        items,
+        filled,
+        space,
+    };
+    Ok(Outcome { answer, left })
 }
 
-// Does the work, and gives what it leaves. Where the ramp is refused, nothing is done.
+// Does the work, and gives what it answers and leaves. Where the ramp is refused, nothing is done.
 pub fn carry_out<J: Job>(
     heap: Global,
-    job: &mut J,
+    job: &J,
     feed: &FeedPlan,
     strip: StripPlan,
-) -> io::Result<Result<Left, Refusal>> {
-    match feed {
+) -> Result<Outcome<J::Answer>, CarryError<J::Error>> {
+    let outcome = match feed {
         FeedPlan::Trace(records) => {
-            let mut feed = Trace::new(records.as_slice());
-            Ok(Ok(onto_strip(heap, job, &mut feed, strip)?))
+            let mut trace = Trace::new(records.as_slice());
+            onto_strip(heap, job, &mut trace, strip)
         }
-        FeedPlan::Ramp(start, step, count) => match Ramp::new(*start, *step, *count) {
-            Ok(ramp) => {
-                let mut feed = ramp;
-                Ok(Ok(onto_strip(heap, job, &mut feed, strip)?))
-            }
-            Err(refusal) => Ok(Err(refusal)),
-        },
-    }
+        FeedPlan::Ramp { start, step, count } => {
+            let mut ramp = Ramp::new(*start, *step, *count)?;
+            onto_strip(heap, job, &mut ramp, strip)
+        }
+    };
+    outcome.map_err(CarryError::Failed)
 }

@@ -3,6 +3,8 @@
 #![tactic(auto)]
 
 pub mod carry;
+pub mod demonstration;
+pub mod input;
 pub mod plan;
 pub mod show;
 pub mod whole;

@@ -3,8 +3,9 @@ use notation::error::ReadError;
 use notation::line::read_line;
 use notation::plan::{CallPlan, FeedPlan, Line, StripPlan};
 use std::alloc::{AllocFailed, Global};
-use std::fmt;
+use thiserror::Error;
 
+// What the lines so far have planned.
 #[derive(Drop)]
 pub struct Plan {
     pub feed: Option<FeedPlan>,
@@ -12,14 +13,26 @@ pub struct Plan {
     pub calls: Vec<CallPlan>,
 }
 
+// A session whose lines have all been taken in.
+#[derive(Drop)]
+pub struct Session {
+    pub feed: FeedPlan,
+    pub strip: StripPlan,
+    pub calls: Vec<CallPlan>,
+}
+
 // Why a line has no place in a plan.
-#[derive(Clone, Copy)]
+#[derive(Clone, Copy, Debug, PartialEq, Eq, Error)]
 pub enum PlanError {
     // the line cannot be read
+    #[error("{0}")]
     Line(ReadError),
+    #[error("there is a feed line already: a session has one")]
     SecondFeed,
+    #[error("there is a strip line already: a session has one")]
     SecondStrip,
     // a call before feed and strip
+    #[error("a feed line and a strip line come before the calls")]
     CallTooEarly,
 }
 
@@ -35,20 +48,13 @@ impl<T: Drop> From<AllocFailed<T>> for PlanError {
     }
 }
 
-impl fmt::Display for PlanError {
-    fn fmt<W: fmt::Write>(&self, f: &mut fmt::Formatter<W>) -> fmt::Result {
-        match self {
-            PlanError::Line(error) => {
-                let words = *error;
-                write!(f, "{words}")
-            }
-            PlanError::SecondFeed => f.write_str("there is a feed line already: a session has one"),
-            PlanError::SecondStrip => f.write_str(
-                "there is a strip line already: a session has one",
-            ),
-            PlanError::CallTooEarly => f.write_str(
-                "a feed line and a strip line come before the calls",
-            ),
+// Fills a place that is empty; a second value is refused.
+fn fill<T: Drop>(place: &mut Option<T>, value: T, second: PlanError) -> Result<(), PlanError> {
+    match place {
+        Some(_) => Err(second),
+        None => {
+            *place = Some(value);
+            Ok(())
         }
     }
 }
@@ -63,9 +69,9 @@ impl Plan {
     }
 
     fn add_call(&mut self, call: CallPlan) -> Result<(), PlanError> {
-        if self.feed.is_none() || self.strip.is_none() {
+        let (Some(_), Some(_)) = (&self.feed, &self.strip) else {
             return Err(PlanError::CallTooEarly);
-        }
+        };
         self.calls.push(call)?;
         Ok(())
     }
@@ -73,24 +79,26 @@ impl Plan {
     // Takes in what a line says.
     pub fn add(&mut self, line: Line) -> Result<(), PlanError> {
         match line {
-            Line::Nothing => Ok(()),
-            Line::Feed(_) if self.feed.is_some() => Err(PlanError::SecondFeed),
-            Line::Feed(feed) => {
-                self.feed = Some(feed);
-                Ok(())
-            }
-            Line::Strip(_) if self.strip.is_some() => Err(PlanError::SecondStrip),
-            Line::Strip(strip) => {
-                self.strip = Some(strip);
-                Ok(())
-            }
+            Line::Feed(feed) => fill(&mut self.feed, feed, PlanError::SecondFeed),
+            Line::Strip(strip) => fill(&mut self.strip, strip, PlanError::SecondStrip),
             Line::Call(call) => self.add_call(call),
         }
     }
 
     // Takes in a line of text.
     pub fn read(&mut self, heap: Global, text: &[u8]) -> Result<(), PlanError> {
-        let line = read_line(heap, text)?;
-        self.add(line)
+        match read_line(heap, text)? {
+            Some(line) => self.add(line),
+            None => Ok(()),
+        }
+    }
+
+    // The session, once there are a feed and a strip.
+    pub fn finish(self) -> Option<Session> {
+        let Plan { feed, strip, calls } = self;
+        match (feed, strip) {
+            (Some(feed), Some(strip)) => Some(Session { feed, strip, calls }),
+            _ => None,
+        }
     }
 }

@@ -1,15 +1,18 @@
 // Answers and what is left as lines of text, in numbers, for scripts.
-ghost use Rattle.std.specs.Prelude.{◌≡◌, true, [], ◌∷◌, ◌++◌, IfOk, if◌then◌else◌, Some, string_bytes, OnOk};
+ghost use Rattle.std.specs.Prelude.{◌≡◌, ℕ, List, true, [], ◌∷◌, ◌++◌, IfOk, if◌then◌else◌, Some, string_bytes, OnOk};
+ghost use Rattle.std.specs.List.{flat_map};
+ghost use Rattle.ports.specs.Lines.{word_of};
+ghost use Rattle.ports.specs.Records.{value_of};
 ghost use Rattle.planned.specs.Answers.{answer_text, answers_text};
 ghost use Rattle.notation.specs.Lines.{item_word};
-ghost use Rattle.planned.specs.Leaves.{items_text, record_behind, records_text, byte_text, lines_text, bytes_text, filled_text, memory_text, left_text};
+ghost use Rattle.planned.specs.Leaves.{items_text, records_text, byte_text, lines_text, bytes_text, filled_text, memory_text, left_text};
 
 use crate::carry::{Filled, Left};
 use notation::hex::hex_text;
 use ports::records::OutRecord;
 use session::Answer;
-use std::alloc::Global;
-use std::{fmt, io};
+use std::alloc::{AllocError, Global};
+use std::fmt;
 use vocabulary::item::Item;
 
 // An answer in numbers.
@@ -39,26 +42,6 @@ impl fmt::Display for InNumbers {
     }
 }
 
-// The answers of a session in numbers, a line each.
-pub fn answers_in_numbers(heap: Global, answers: &[Answer]) -> io::Result<String>
-    ensures { IfOk result (λ text. string_bytes text ≡ answers_text answers.now) }
-{
-    let mut text = String::new(heap);
-    for answer in answers {
-        text.writeln(InNumbers(*answer))?;
-    }
-    Ok(text)
-}
-
-// The same as sentences.
-pub fn answers_in_words(heap: Global, answers: &[Answer]) -> io::Result<String> {
-    let mut text = String::new(heap);
-    for answer in answers {
-        text.writeln(*answer)?;
-    }
-    Ok(text)
-}
-
 // An item as a feed line has it.
 #[derive(Clone, Copy)]
 pub struct AsWord(pub Item);
@@ -77,72 +60,89 @@ impl fmt::Display for AsWord {
     }
 }
 
-// The items, each behind a blank.
-pub fn add_items(text: &mut String, items: &[Item]) -> io::Result<()>
-    ensures { OnOk result (string_bytes text.new ≡ string_bytes text.old ++ items_text items.now) }
+// The value that a record says.
+#[derive(Clone, Copy)]
+pub struct AsValue(pub OutRecord);
+
+impl fmt::Display for AsValue {
+    ghost output = { λ r. Some (word_of (value_of r.0)) };
+
+    fn fmt<W: fmt::Write>(&self, f: &mut fmt::Formatter<W>) -> fmt::Result {
+        let number = self.0.number;
+        match self.0.sort {
+            0 => write!(f, "{number}"),
+            _ if number == 0 => f.write_str("false"),
+            _ => f.write_str("true"),
+        }
+    }
+}
+
+// Writes a line for each answer, as `shown` shows it.
+fn answer_lines<T: fmt::Display + Drop, F: Fn(Answer) -> T>(
+    heap: Global,
+    answers: &[Answer],
+    shown: F,
+) -> Result<String, AllocError>
+    requires { F.IsAlwaysCallable shown }
+    ensures { (line : Answer → List ℕ) → ((a : Answer) (t : T) → F.post shown a t → T.output t ≡ Some (line a)) → IfOk result (λ text. string_bytes text ≡ flat_map (λ a. line a ++ (10 ∷ [])) answers.now) }
+{
+    let mut text = String::new(heap);
+    for answer in answers {
+        text.writeln(shown(*answer))?;
+    }
+    Ok(text)
+}
+
+// The answers of a session in numbers, a line each.
+pub fn answers_in_numbers(heap: Global, answers: &[Answer]) -> Result<String, AllocError>
+    ensures { IfOk result (λ text. string_bytes text ≡ answers_text answers.now) }
+{
+    answer_lines(heap, answers, InNumbers)
+}
+
+// The same as sentences.
+pub fn answers_in_words(heap: Global, answers: &[Answer]) -> Result<String, AllocError> {
+    answer_lines(heap, answers, |answer| answer)
+}
+
+// Writes a word for each of `items`, as `word` gives it, behind a blank.
+pub fn push_words<T: Copy, D: fmt::Display + Drop, F: Fn(T) -> D>(
+    text: &mut String,
+    items: &[T],
+    word: F,
+) -> Result<(), AllocError>
+    requires { F.IsAlwaysCallable word }
+    ensures { (said : T → List ℕ) → ((a : T) (t : D) → F.post word a t → D.output t ≡ Some (said a)) → OnOk result (string_bytes text.new ≡ string_bytes text.old ++ flat_map (λ a. 32 ∷ said a) items.now) }
 {
     for item in items {
-        let word = AsWord(*item);
-        write!(text, " {word}")?;
+        let shown = word(*item);
+        write!(text, " {shown}")?;
     }
     Ok(())
 }
 
-// The value of a record, behind a blank.
-fn add_record(text: &mut String, out: OutRecord) -> io::Result<()>
-    ensures { OnOk result (string_bytes text.new ≡ string_bytes text.old ++ record_behind out) }
+// The items, each behind a blank.
+pub fn push_items(text: &mut String, items: &[Item]) -> Result<(), AllocError>
+    ensures { OnOk result (string_bytes text.new ≡ string_bytes text.old ++ items_text items.now) }
 {
-    let number = out.number;
-    match out.sort {
-        0 => write!(text, " {number}")?,
-        _ if number == 0 => text.push_str(" false")?,
-        _ => text.push_str(" true")?,
-    }
-    Ok(())
-}
-
-// The values of records, each behind a blank.
-fn add_records(text: &mut String, records: &[OutRecord]) -> io::Result<()>
-    ensures { OnOk result (string_bytes text.new ≡ string_bytes text.old ++ records_text records.now) }
-{
-    for out in records {
-        add_record(text, *out)?;
-    }
-    Ok(())
-}
-
-// What stands before a byte of a line: a blank before the first.
-fn before(begins: bool) -> &'static str
-    ensures { result.now ≡ (if begins then 32 ∷ [] else []) }
-{
-    if begins { " " } else { "" }
-}
-
-// A byte of a line, and nothing for the byte that ends it.
-fn add_byte(text: &mut String, begins: bool, byte: u8) -> io::Result<()>
-    ensures { OnOk result (string_bytes text.new ≡ string_bytes text.old ++ byte_text begins byte) }
-{
-    text.push_str(before(begins))?;
-    if byte != b'\n' {
-        text.push(char::from(byte))?;
-    }
-    Ok(())
+    push_words(text, items, AsWord)
 }
 
 // The lines of a text strip, each behind a blank.
-fn add_lines(text: &mut String, lines: &[u8]) -> io::Result<()>
+fn push_lines(text: &mut String, lines: &[u8]) -> Result<(), AllocError>
     ensures { OnOk result (string_bytes text.new ≡ string_bytes text.old ++ lines_text true lines.now) }
 {
-    let mut begins = true;
-    for byte in lines {
-        add_byte(text, begins, *byte)?;
-        begins = *byte == b'\n';
+    for line in lines.split_inclusive(|byte| *byte == b'\n') {
+        text.push_str(" ")?;
+        for byte in line.strip_suffix(b"\n").unwrap_or(line) {
+            text.push(char::from(*byte))?;
+        }
     }
     Ok(())
 }
 
 // A line of bytes in hex digits, behind a word that says what they are.
-pub fn add_bytes(text: &mut String, heap: Global, word: &str, bytes: &[u8]) -> io::Result<()>
+pub fn push_bytes(text: &mut String, heap: Global, word: &str, bytes: &[u8]) -> Result<(), AllocError>
     ensures { OnOk result (string_bytes text.new ≡ string_bytes text.old ++ bytes_text word.now bytes.now) }
 {
     if bytes.is_empty() {
@@ -154,36 +154,38 @@ pub fn add_bytes(text: &mut String, heap: Global, word: &str, bytes: &[u8]) -> i
     Ok(())
 }
 
-// The values that a strip holds, each behind a blank.
-fn add_filled(text: &mut String, filled: &Filled) -> io::Result<()>
-    ensures { OnOk result (string_bytes text.new ≡ string_bytes text.old ++ filled_text filled.now) }
-{
-    match filled {
-        Filled::Records(records) => add_records(text, records.as_slice()),
-        Filled::Text(lines) => add_lines(text, lines.as_slice()),
+impl Filled {
+    // The values that a strip holds, each behind a blank.
+    fn push_values(&self, text: &mut String) -> Result<(), AllocError>
+        ensures { OnOk result (string_bytes text.new ≡ string_bytes text.old ++ filled_text self.now) }
+    {
+        match self {
+            Filled::Records(records) => push_words(text, records.as_slice(), AsValue),
+            Filled::Text(lines) => push_lines(text, lines.as_slice()),
+        }
     }
-}
 
-// The bytes that a text strip holds.
-fn add_memory(text: &mut String, heap: Global, filled: &Filled) -> io::Result<()>
-    ensures { OnOk result (string_bytes text.new ≡ string_bytes text.old ++ memory_text filled.now) }
-{
-    match filled {
-        Filled::Records(_) => Ok(()),
-        Filled::Text(bytes) => add_bytes(text, heap, "text", bytes.as_slice()),
+    // The bytes that a text strip holds.
+    fn push_memory(&self, text: &mut String, heap: Global) -> Result<(), AllocError>
+        ensures { OnOk result (string_bytes text.new ≡ string_bytes text.old ++ memory_text self.now) }
+    {
+        match self {
+            Filled::Records(_) => Ok(()),
+            Filled::Text(bytes) => push_bytes(text, heap, "text", bytes.as_slice()),
+        }
     }
 }
 
 // What is left, in three lines, and for a text strip a fourth with its bytes.
-pub fn left_text(heap: Global, left: &Left) -> io::Result<String>
+pub fn left_text(heap: Global, left: &Left) -> Result<String, AllocError>
     ensures { IfOk result (λ text. string_bytes text ≡ left_text left.now) }
 {
     let mut text = String::from_str(heap, "feed")?;
-    add_items(&mut text, left.items.as_slice())?;
+    push_items(&mut text, left.items.as_slice())?;
     text.push_str("\nheld")?;
-    add_filled(&mut text, &left.filled)?;
+    left.filled.push_values(&mut text)?;
     let space = left.space;
     write!(text, "\nspace {space}\n")?;
-    add_memory(&mut text, heap, &left.filled)?;
+    left.filled.push_memory(&mut text, heap)?;
     Ok(text)
 }

@@ -1,84 +1,77 @@
 // Reading lines.
-use crate::plan::{CallPlan, FeedPlan, Part, StripPlan};
-use anyhow::anyhow;
+use crate::error::ScriptError;
+use notation::plan::{CallPlan, FeedPlan, Line, StripPlan};
 use ports::trace::Record;
-use std::alloc::Global;
+use std::alloc::{AllocError, Global};
 
-fn hex_digit(byte: u8) -> anyhow::Result<u8> {
+fn hex_digit(byte: u8) -> Result<u8, ScriptError> {
     match byte {
         b'0'..=b'9' => Ok(byte - b'0'),
         b'a'..=b'f' => Ok(byte - b'a' + 10),
-        _ => Err(anyhow!("a digit 0 to 9 or a to f is wanted")),
+        _ => Err(ScriptError::NoHexDigit),
     }
 }
 
 // The bytes that a word gives in base 16; `-` gives none.
-pub fn bytes_in(heap: Global, word: &str) -> anyhow::Result<Vec<u8>> {
+pub fn bytes_in(heap: Global, word: &str) -> Result<Vec<u8>, ScriptError> {
     let mut bytes = Vec::new(heap);
     if word == "-" {
         return Ok(bytes);
     }
-    let mut digits = word.bytes();
-    while let Some(high) = digits.next() {
-        let Some(low) = digits.next() else {
-            return Err(anyhow!("digits come in pairs"));
+    for digits in word.as_bytes().chunks(2) {
+        let [high, low] = digits else {
+            return Err(ScriptError::OddDigits);
         };
-        bytes.push(hex_digit(high)? << 4 | hex_digit(low)?)?;
+        bytes.push(hex_digit(*high)? << 4 | hex_digit(*low)?)?;
     }
     Ok(bytes)
 }
 
 // A reading, or a fault as `fault:3`.
-fn record_in(word: &str) -> anyhow::Result<Record> {
+fn record_in(word: &str) -> Result<Record, ScriptError> {
     let Some(digits) = word.strip_prefix("fault:") else {
-        return Ok(Record {
-            code: 0,
-            reading: word.parse::<i32>()?,
-        });
+        let reading = word.parse::<i32>()?;
+        return Ok(Record { code: 0, reading });
     };
     match digits.parse::<u8>()? {
-        0 => Err(anyhow!("a fault's code is 1 to 255")),
+        0 => Err(ScriptError::FaultCode),
         code => Ok(Record { code, reading: 0 }),
     }
 }
 
-fn records_in(heap: Global, words: &[&str]) -> anyhow::Result<Vec<Record>> {
-    let mut records = Vec::new(heap);
-    for word in words {
-        records.push(record_in(*word)?)?;
-    }
-    Ok(records)
+fn trace_in(heap: Global, words: &[&str]) -> Result<FeedPlan, ScriptError> {
+    let records = words
+        .iter()
+        .map(|word| record_in(*word))
+        .try_collect(heap)?;
+    Ok(FeedPlan::Trace(records))
 }
 
-fn ramp_in(start: &str, step: &str, count: &str) -> anyhow::Result<FeedPlan> {
-    Ok(FeedPlan::Ramp(
-        start.parse::<i32>()?,
-        step.parse::<i32>()?,
-        count.parse::<u16>()?,
-    ))
+fn ramp_in(start: &str, step: &str, count: &str) -> Result<FeedPlan, ScriptError> {
+    let start = start.parse::<i32>()?;
+    let step = step.parse::<i32>()?;
+    let count = count.parse::<u16>()?;
+    Ok(FeedPlan::Ramp { start, step, count })
 }
 
 // What the words of a line plan.
-pub fn part_of(heap: Global, words: &[&str]) -> anyhow::Result<Part> {
-    match words {
-        ["feed", "trace", items @ ..] => Ok(Part::Feed(FeedPlan::Trace(records_in(heap, items)?))),
-        ["feed", "ramp", start, step, count] => Ok(Part::Feed(ramp_in(*start, *step, *count)?)),
-        ["strip", "records", count] => Ok(Part::Strip(StripPlan::Records(count.parse::<usize>()?))),
-        ["strip", "text", count] => Ok(Part::Strip(StripPlan::Text(count.parse::<usize>()?))),
-        ["load", table] => Ok(Part::Call(CallPlan::Load(bytes_in(heap, *table)?))),
-        ["open", sheet] => Ok(Part::Call(CallPlan::Open(bytes_in(heap, *sheet)?))),
-        ["rewind"] => Ok(Part::Call(CallPlan::Rewind)),
-        ["run", fuel] => Ok(Part::Call(CallPlan::Run(fuel.parse::<u32>()?))),
-        ["report"] => Ok(Part::Call(CallPlan::Report)),
-        _ => Err(anyhow!("no such line is known")),
-    }
+pub fn line_of(heap: Global, words: &[&str]) -> Result<Line, ScriptError> {
+    Ok(match words {
+        ["feed", "trace", items @ ..] => Line::Feed(trace_in(heap, items)?),
+        ["feed", "ramp", start, step, count] => Line::Feed(ramp_in(*start, *step, *count)?),
+        ["strip", "records", count] => Line::Strip(StripPlan::Records(count.parse::<usize>()?)),
+        ["strip", "text", count] => Line::Strip(StripPlan::Text(count.parse::<usize>()?)),
+        ["load", table] => Line::Call(CallPlan::Load(bytes_in(heap, *table)?)),
+        ["open", sheet] => Line::Call(CallPlan::Open(bytes_in(heap, *sheet)?)),
+        ["rewind"] => Line::Call(CallPlan::Rewind),
+        ["run", fuel] => Line::Call(CallPlan::Run(fuel.parse::<u32>()?)),
+        ["report"] => Line::Call(CallPlan::Report),
+        _ => return Err(ScriptError::UnknownLine),
+    })
 }
 
 // The words of a line; `#` begins a comment.
-pub fn words_of(heap: Global, text: &str) -> anyhow::Result<Vec<&str>> {
-    let said = match text.split_once('#') {
-        Some((before, _)) => before,
-        None => text,
-    };
-    Ok(said.split_whitespace().collect(heap)?)
+pub fn words_of(heap: Global, text: &str) -> Result<Vec<&str>, AllocError> {
+    let said = text.split_once('#').map_or(text, |(before, _)| before);
+    said.split_whitespace().collect(heap)
 }

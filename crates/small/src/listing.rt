@@ -1,129 +1,96 @@
 // A program on one page: its tree, and its code.
-use language::kind::Rule;
-use language::rules::fields_of;
-use std::io;
+use language::form::{number_in, operation_in};
+use language::kind::Kind;
+use language::rules::children;
+use sequencer::state::Sequencer;
+use std::{fmt, io};
 use vocabulary::code::Word;
 use vocabulary::node::Node;
 
-// What a kind is called.
-fn form_name(kind: u8) -> &'static str {
-    match kind {
-        1 => "assign",
-        2 => "output",
-        3 => "if",
-        4 => "while",
-        5 => "block",
-        6 => "sequence",
-        7 => "procedure call",
-        10 => "constant",
-        11 => "variable",
-        12 => "procedure",
-        13 => "function",
-        14 => "pair",
-        20 => "number",
-        21 => "truth",
-        22 => "read",
-        23 => "name",
-        24 => "operation",
-        25 => "function call",
-        26 => "choice",
-        _ => "unknown",
-    }
-}
+// A node of an accepted table, in words.
+#[derive(Clone, Copy)]
+struct InWords(Node);
 
-// What an operator is called.
-fn operator_name(operator: u8) -> &'static str {
-    match operator {
-        1 => "sum",
-        2 => "difference",
-        3 => "product",
-        4 => "quotient",
-        5 => "equal",
-        6 => "less",
-        _ => "unknown",
-    }
-}
-
-fn print_form(rt: &HostRuntime, node: Node) -> io::Result<()> {
-    let name = form_name(node.kind);
-    let tag = node.tag;
-    match node.kind {
-        7 | 10 | 11 | 23 | 25 => println!(rt; "{name} {tag}"),
-        12 | 13 => {
-            let parameter = node.c;
-            println!(rt; "{name} {tag}, parameter {parameter}")
+impl fmt::Display for InWords {
+    fn fmt<W: fmt::Write>(&self, f: &mut fmt::Formatter<W>) -> fmt::Result {
+        let node = self.0;
+        let tag = node.tag;
+        let Ok(kind) = Kind::try_from(node.kind) else {
+            return f.write_str("unknown");
+        };
+        match kind {
+            Kind::ProcedureCall
+            | Kind::Constant
+            | Kind::Variable
+            | Kind::Name
+            | Kind::FunctionCall => write!(f, "{kind} {tag}"),
+            Kind::Procedure | Kind::Function => {
+                let parameter = node.c;
+                write!(f, "{kind} {tag}, parameter {parameter}")
+            }
+            Kind::Number => {
+                let number = number_in(node);
+                write!(f, "{kind} {number}")
+            }
+            Kind::Truth => {
+                let truth = tag != 0;
+                write!(f, "{kind} {truth}")
+            }
+            Kind::Operation => {
+                let operation = operation_in(node);
+                write!(f, "{kind} {operation}")
+            }
+            Kind::Assign
+            | Kind::Output
+            | Kind::If
+            | Kind::While
+            | Kind::Block
+            | Kind::Sequence
+            | Kind::Pair
+            | Kind::Read
+            | Kind::Choice => write!(f, "{kind}"),
         }
-        20 => {
-            let number = (u32::from(node.b) + u32::from(node.c) * 65536).cast_signed();
-            println!(rt; "{name} {number}")
-        }
-        21 if tag == 0 => println!(rt; "{name} false"),
-        21 => println!(rt; "{name} true"),
-        24 => {
-            let operator = operator_name(tag);
-            println!(rt; "{name} {operator}")
-        }
-        _ => println!(rt; "{name}"),
     }
 }
 
-// Prints the tree below a field that names a child. A child is lower than its parent in every accepted table; the test
-// makes the listing end for any other.
-#[cycle(print_child_print_node)]
-fn print_child(
-    rt: &HostRuntime,
-    nodes: &[Node],
-    n: usize,
-    depth: usize,
-    rule: Rule,
-    child: u16,
-) -> io::Result<()> {
-    match rule {
-        Rule::Child(_) if usize::from(child) < n => print_node(
-            rt,
-            nodes,
-            usize::from(child),
-            depth.saturating_add(1),
-        ),
-        _ => Ok(()),
-    }
-}
-
-// Prints node `n` and, indented, the trees of its children.
-#[cycle(print_child_print_node)]
+// Prints node `n` and, indented, the trees of its children. A child is lower than its parent in every accepted table; the
+// test makes the listing end for any other.
 fn print_node(rt: &HostRuntime, nodes: &[Node], n: usize, depth: usize) -> io::Result<()> {
-    if n >= nodes.len() {
+    let Some(node) = nodes.get(n) else {
         return Ok(());
-    }
-    let node = nodes[n];
+    };
+    let words = InWords(*node);
     print!(rt; "{n:>3}  ")?;
     for _ in 0..depth {
         print!(rt; "  ")?;
     }
-    print_form(rt, node)?;
-    let Some(fields) = fields_of(node.kind) else {
-        return Ok(());
-    };
-    print_child(rt, nodes, n, depth, fields.a, node.a)?;
-    print_child(rt, nodes, n, depth, fields.b, node.b)?;
-    print_child(rt, nodes, n, depth, fields.c, node.c)
-}
-
-// The tree of a table, from its last node down.
-pub fn print_tree(rt: &HostRuntime, nodes: &[Node]) -> io::Result<()> {
-    if nodes.is_empty() {
-        return Ok(());
+    println!(rt; "{words}")?;
+    for child in children(*node).as_slice() {
+        let child = usize::from(child.number);
+        if child < n {
+            print_node(rt, nodes, child, depth.saturating_add(1))?;
+        }
     }
-    print_node(rt, nodes, nodes.len() - 1, 0)
+    Ok(())
 }
 
 // The code, a word a line.
-pub fn print_code(rt: &HostRuntime, code: &[Word]) -> io::Result<()> {
+fn print_code(rt: &HostRuntime, code: &[Word]) -> io::Result<()> {
     for (position, word) in code.iter().enumerate() {
         let name = word.instruction.name();
         let operand = word.instruction.operand();
         let node = word.node;
         println!(rt; "{position:>4}  {name:<5} {operand:>11}  {node:>3}")?;
     }
+    Ok(())
+}
+
+// The program that is loaded: its tree, from the last node down, and its code.
+pub fn print_page(rt: &HostRuntime, sequencer: &Sequencer) -> anyhow::Result<()> {
+    let nodes = sequencer.nodes();
+    rt.println("Tree: node, form")?;
+    print_node(rt, nodes, nodes.len().saturating_sub(1), 0)?;
+    rt.println("\nCode: position, instruction, operand, node")?;
+    print_code(rt, sequencer.code())?;
     Ok(())
 }

@@ -1,13 +1,13 @@
 // The program `small`. Without arguments it shows one program from start to end; `small session` carries out a session.
 #![tactic(auto)]
 
-mod countdown;
-mod demonstration;
 mod listing;
 mod sessions;
 
 use anyhow::anyhow;
-use demonstration::demonstrate;
+use listing::print_page;
+use planned::demonstration::demonstrate;
+use planned::show::{answers_in_numbers, answers_in_words};
 use sessions::run_session;
 use std::env;
 use std::process::ExitCode;
@@ -25,9 +25,9 @@ a session, '#' begins a comment:
 
 fn command(rt: &HostRuntime, words: &[&str]) -> anyhow::Result<()> {
     match words {
-        [] => Ok(demonstrate(rt)?),
-        ["session"] => run_session(rt, false),
-        ["session", "--words"] => run_session(rt, true),
+        [] => demonstrate(rt, print_page),
+        ["session"] => run_session(rt, answers_in_numbers),
+        ["session", "--words"] => run_session(rt, answers_in_words),
         ["help"] => Ok(rt.println(USAGE)?),
         _ => {
             rt.eprintln("error: no such command")?;

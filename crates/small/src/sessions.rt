@@ -1,74 +1,41 @@
 // A session from standard input: all of it is read before anything is carried out.
 use anyhow::anyhow;
-use script::plan::{CallPlan, FeedPlan, Part, StripPlan};
-use script::read::{part_of, words_of};
-use script::whole::carry_out_session;
-use std::io::{BufRead, BufReader};
+use planned::input::read_plan;
+use planned::plan::{Plan, PlanError};
+use planned::whole::session_text;
+use script::read::{line_of, words_of};
+use session::Answer;
+use std::alloc::{AllocError, Global};
 
-// What a session's lines plan: one feed and one strip, and then calls.
-#[derive(Drop)]
-struct Plan {
-    feed: Option<FeedPlan>,
-    strip: Option<StripPlan>,
-    calls: Vec<CallPlan>,
+// Takes in a line of text.
+fn take(heap: Global, plan: &mut Plan, text: &str) -> anyhow::Result<()> {
+    let words = words_of(heap, text)?;
+    if words.is_empty() {
+        return Ok(());
+    }
+    let line = line_of(heap, words.as_slice())?;
+    plan.add(line).map_err(|error| match error {
+        PlanError::SecondFeed => anyhow!("there is a feed already"),
+        PlanError::SecondStrip => anyhow!("there is a strip already"),
+        other => anyhow::Error::from(other),
+    })
 }
 
-impl Plan {
-    fn add(&mut self, part: Part) -> anyhow::Result<()> {
-        let ready = self.feed.is_some() && self.strip.is_some();
-        match part {
-            Part::Feed(_) if self.feed.is_some() => Err(anyhow!("there is a feed already")),
-            Part::Feed(feed) => {
-                self.feed = Some(feed);
-                Ok(())
-            }
-            Part::Strip(_) if self.strip.is_some() => Err(anyhow!("there is a strip already")),
-            Part::Strip(strip) => {
-                self.strip = Some(strip);
-                Ok(())
-            }
-            Part::Call(_) if !ready => Err(anyhow!(
-                "a feed line and a strip line come before the calls"
-            )),
-            Part::Call(call) => Ok(self.calls.push(call)?),
-        }
-    }
-
-    fn read(&mut self, rt: &HostRuntime, text: &str) -> anyhow::Result<()> {
-        let words = words_of(rt.alloc(), text)?;
-        if words.is_empty() {
-            return Ok(());
-        }
-        self.add(part_of(rt.alloc(), words.as_slice())?)
-    }
-}
-
-fn read_plan(rt: &HostRuntime) -> anyhow::Result<Plan> {
-    let mut plan = Plan {
-        feed: None,
-        strip: None,
-        calls: Vec::new(rt.alloc()),
+// The answers are printed as `answers` writes them.
+pub fn run_session<F: FnOnce(Global, &[Answer]) -> Result<String, AllocError>>(
+    rt: &HostRuntime,
+    answers: F,
+) -> anyhow::Result<()>
+    requires { F.IsAlwaysCallable answers }
+{
+    let heap = rt.alloc();
+    let Some(plan) = read_plan(rt, |plan, text| take(heap, plan, text))? else {
+        return Err(anyhow!("a line has no place in a session"));
     };
-    for (place, text) in BufReader::new(rt.alloc(), rt.stdin())?
-        .lines(rt.alloc())
-        .enumerate()
-    {
-        let text = text?;
-        if let Err(error) = plan.read(rt, text.as_str()) {
-            let number = place.saturating_add(1);
-            eprintln!(rt; "error {number} {error}")?;
-            return Err(error);
-        }
-    }
-    Ok(plan)
-}
-
-pub fn run_session(rt: &HostRuntime, in_words: bool) -> anyhow::Result<()> {
-    let plan = read_plan(rt)?;
-    let Plan { feed, strip, calls } = plan;
-    let (Some(feed), Some(strip)) = (feed, strip) else {
+    let Some(session) = plan.finish() else {
         rt.eprintln("error: a session has a feed line and a strip line")?;
         return Err(anyhow!("a session has a feed line and a strip line"));
     };
-    carry_out_session(rt, calls.as_slice(), &feed, strip, in_words)
+    rt.print(session_text(heap, &session, answers)?)?;
+    Ok(())
 }

@@ -1,24 +1,45 @@
 // What a trial works on: a sequencer, and memory for its sheets.
 use crate::plan::Step;
-use crate::show::{print_code, print_length, print_sum};
+use crate::show::{print_code, print_sum};
 use anyhow::anyhow;
+use notation::plan::CallPlan;
+use planned::show::{InNumbers, push_bytes};
 use ports::feed::Feed;
 use ports::strip::Strip;
-use script::plan::CallPlan;
-use script::show::{print_bytes, print_done, print_refusal, print_report};
 use sequencer::state::Sequencer;
+use session::Answer;
 use sheet::half::HalfSheet;
 use std::alloc::Global;
 use std::io;
+use vocabulary::refusal::Refusal;
 
 // What fresh memory holds, so that a byte that is not written shows.
 const FRESH: u8 = 255;
 
 #[derive(Drop)]
 pub struct Bench {
-    pub sequencer: Sequencer,
+    sequencer: Sequencer,
     memory: Vec<u8>,
     half: Option<HalfSheet>,
+}
+
+fn print_refusal(rt: &HostRuntime, refusal: Refusal) -> io::Result<()> {
+    rt.println(InNumbers(Answer::Refused(refusal)))
+}
+
+// What finish and archive answer: the length of the sheet.
+fn print_length(rt: &HostRuntime, answer: Result<usize, Refusal>) -> io::Result<()> {
+    match answer {
+        Ok(length) => println!(rt; "length {length}"),
+        Err(refusal) => print_refusal(rt, refusal),
+    }
+}
+
+// Changes some bits of one byte; twice the same change is none.
+fn flip(bytes: &mut [u8], at: usize, change: u8) {
+    if let Some(byte) = bytes.get_mut(at) {
+        *byte ^= change;
+    }
 }
 
 impl Bench {
@@ -30,21 +51,22 @@ impl Bench {
         }
     }
 
-    // Carries out a call of the sequencer, and prints its answer.
-    fn answer<F: Feed, S: Strip>(
-        &mut self,
-        rt: &HostRuntime,
-        call: &CallPlan,
-        feed: &mut F,
-        strip: &mut S,
-    ) -> io::Result<()> {
-        match call {
-            CallPlan::Load(table) => print_done(rt, self.sequencer.load(table.as_slice())),
-            CallPlan::Open(sheet) => print_done(rt, self.sequencer.open(sheet.as_slice())),
-            CallPlan::Rewind => print_done(rt, self.sequencer.rewind()),
-            CallPlan::Run(fuel) => print_report(rt, self.sequencer.run(*fuel, feed, strip)),
-            CallPlan::Report => print_report(rt, self.sequencer.report()),
-        }
+    // Carries out a call of the sequencer.
+    fn answer<F: Feed, S: Strip>(&mut self, call: &CallPlan, feed: &mut F, strip: &mut S) -> Answer {
+        let done = match call {
+            CallPlan::Load(table) => self.sequencer.load(table.as_slice()),
+            CallPlan::Open(sheet) => self.sequencer.open(sheet.as_slice()),
+            CallPlan::Rewind => self.sequencer.rewind(),
+            CallPlan::Run(fuel) => {
+                let told = self.sequencer.run(*fuel, feed, strip);
+                return told.map_or_else(Answer::Refused, Answer::Told);
+            }
+            CallPlan::Report => {
+                let told = self.sequencer.report();
+                return told.map_or_else(Answer::Refused, Answer::Told);
+            }
+        };
+        done.map_or_else(Answer::Refused, |()| Answer::Done)
     }
 
     // Carries out a step, and prints its answer if it has one.
@@ -56,62 +78,61 @@ impl Bench {
         strip: &mut S,
     ) -> anyhow::Result<()> {
         match step {
-            Step::Call(call) => Ok(self.answer(rt, call, feed, strip)?),
-            Step::Code => Ok(print_code(rt, self.sequencer.code())?),
-            Step::Sum => Ok(print_sum(rt, self.sequencer.nodes(), self.sequencer.code())?),
-            Step::Paper(size) => self.lay_out(rt.alloc(), *size),
-            Step::Start => Ok(self.start(rt)?),
-            Step::Finish => self.finish(rt),
-            Step::Archive => Ok(print_length(
-                rt,
-                self.sequencer.archive(self.memory.as_mut_slice()),
-            )?),
-            Step::Poke(at, value) => self.poke(*at, *value),
-            Step::Look => Ok(print_bytes(rt, "memory", self.memory.as_slice())?),
-            Step::Flips(sheet) => self.flips(rt, sheet.as_slice()),
+            Step::Call(call) => rt.println(InNumbers(self.answer(call, feed, strip)))?,
+            Step::Code => print_code(rt, self.sequencer.code())?,
+            Step::Sum => print_sum(rt, self.sequencer.nodes(), self.sequencer.code())?,
+            Step::Paper(size) => self.memory = vec![in rt.alloc(); FRESH; *size]?,
+            Step::Start => self.start(rt)?,
+            Step::Finish => self.finish(rt)?,
+            Step::Archive => {
+                let length = self.sequencer.archive(self.memory.as_mut_slice());
+                print_length(rt, length)?
+            }
+            Step::Poke(at, value) => {
+                let byte = self.memory.get_mut(*at);
+                *byte.ok_or(anyhow!("there is no such byte"))? = *value
+            }
+            Step::Look => self.look(rt)?,
+            Step::Flips(sheet) => self.flips(rt, sheet.as_slice())?,
         }
+        Ok(())
+    }
+
+    fn look(&self, rt: &HostRuntime) -> io::Result<()> {
+        let mut text = String::new(rt.alloc());
+        push_bytes(&mut text, rt.alloc(), "memory", self.memory.as_slice())?;
+        rt.print(text)
+    }
+
+    // Whether a sheet with this change of one byte is refused; the change is taken back.
+    fn refuses(&mut self, sheet: &mut [u8], at: usize, change: u8) -> bool {
+        flip(sheet, at, change);
+        let opened = self.sequencer.open(sheet);
+        flip(sheet, at, change);
+        opened.is_err()
     }
 
     // Prints how many of the sheets that differ from this one in one byte are refused, and how many there are.
     fn flips(&mut self, rt: &HostRuntime, sheet: &[u8]) -> anyhow::Result<()> {
         let mut copy = sheet.to_vec(rt.alloc())?;
-        let mut refused = 0u32;
-        let mut tried = 0u32;
+        let mut refused = 0usize;
         for at in 0..sheet.len() {
-            for change in 1..=255u8 {
-                flip(&mut copy, at, change);
-                tried = tried.saturating_add(1);
-                if self.sequencer.open(copy.as_slice()).is_err() {
+            for change in 1..=u8::MAX {
+                if self.refuses(copy.as_mut_slice(), at, change) {
                     refused = refused.saturating_add(1);
                 }
-                flip(&mut copy, at, change);
             }
         }
+        let tried = sheet.len().saturating_mul(255);
         println!(rt; "flips {refused} {tried}")?;
         Ok(())
-    }
-
-    fn lay_out(&mut self, heap: Global, size: usize) -> anyhow::Result<()> {
-        let memory = vec![in heap; FRESH; size]?;
-        drop(std::mem::replace(&mut self.memory, memory));
-        Ok(())
-    }
-
-    fn poke(&mut self, at: usize, value: u8) -> anyhow::Result<()> {
-        match self.memory.get_mut(at) {
-            Some(byte) => {
-                *byte = value;
-                Ok(())
-            }
-            None => Err(anyhow!("there is no such byte")),
-        }
     }
 
     fn start(&mut self, rt: &HostRuntime) -> io::Result<()> {
         match self.sequencer.start(self.memory.as_mut_slice()) {
             Ok(half) => {
-                drop(self.half.replace(half));
-                println!(rt; "half")
+                self.half = Some(half);
+                rt.println("half")
             }
             Err(refusal) => print_refusal(rt, refusal),
         }
@@ -119,23 +140,15 @@ impl Bench {
 
     // A refusal hands the half sheet back.
     fn finish(&mut self, rt: &HostRuntime) -> anyhow::Result<()> {
-        let Some(half) = self.half.take() else {
-            return Err(anyhow!("there is no half sheet"));
-        };
-        match self.sequencer.finish(self.memory.as_mut_slice(), half) {
-            Ok(length) => println!(rt; "length {length}")?,
-            Err((refusal, half)) => {
-                drop(self.half.replace(half));
-                print_refusal(rt, refusal)?;
-            }
-        }
+        let half = self.half.take().ok_or(anyhow!("there is no half sheet"))?;
+        let length = self
+            .sequencer
+            .finish(self.memory.as_mut_slice(), half)
+            .map_err(|(refusal, half)| {
+                self.half = Some(half);
+                refusal
+            });
+        print_length(rt, length)?;
         Ok(())
-    }
-}
-
-// Changes some bits of one byte; twice the same change is none.
-fn flip(bytes: &mut Vec<u8>, at: usize, change: u8) {
-    if let Some(byte) = bytes.get_mut(at) {
-        *byte ^= change;
     }
 }

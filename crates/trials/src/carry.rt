@@ -1,46 +1,59 @@
 // Carrying out a trial: one answer line a step.
 use crate::bench::Bench;
 use crate::plan::{Step, Trial, Work};
+use planned::carry::{CarryError, Job, carry_out};
+use planned::plan::Session;
+use planned::show::{InNumbers, answers_in_numbers, left_text};
+use planned::whole::session_text;
 use ports::feed::Feed;
 use ports::strip::Strip;
-use script::carry::{Job, carry_out};
-use script::whole::carry_out_session;
+use session::Answer;
 
 #[derive(Drop)]
 struct Steps<'a> {
+    rt: &'a HostRuntime,
     steps: &'a [Step],
 }
 
 // Steps one by one, by the single calls of a new sequencer.
-impl<'a> Job for Steps<'a> {
-    fn work<F: Feed, S: Strip>(
-        &self,
-        rt: &HostRuntime,
-        feed: &mut F,
-        strip: &mut S,
-    ) -> anyhow::Result<()> {
-        let mut bench = Bench::new(rt.alloc());
+impl Job for Steps<'_> {
+    type Answer = ();
+    type Error = anyhow::Error;
+
+    fn work<F: Feed, S: Strip>(&self, feed: &mut F, strip: &mut S) -> anyhow::Result<()> {
+        let mut bench = Bench::new(self.rt.alloc());
         for step in self.steps {
-            bench.take(rt, step, feed, strip)?;
+            bench.take(self.rt, step, feed, strip)?;
         }
         Ok(())
     }
 }
 
-pub fn carry_out_trial(rt: &HostRuntime, trial: &Trial) -> anyhow::Result<()> {
-    match &trial.work {
-        Work::Steps(steps) => {
-            let job = Steps {
-                steps: steps.as_slice(),
-            };
-            carry_out(rt, &job, &trial.feed, trial.strip)
+pub fn carry_out_trial(rt: &HostRuntime, trial: Trial) -> anyhow::Result<()> {
+    let word = trial.work.word();
+    let Trial {
+        name,
+        feed,
+        strip,
+        work,
+    } = trial;
+    println!(rt; "{word} {name}")?;
+    let steps = match work {
+        Work::Steps(steps) => steps,
+        Work::Session(calls) => {
+            let session = Session { feed, strip, calls };
+            rt.print(session_text(rt.alloc(), &session, answers_in_numbers)?)?;
+            return Ok(());
         }
-        Work::Session(calls) => carry_out_session(
-            rt,
-            calls.as_slice(),
-            &trial.feed,
-            trial.strip,
-            false,
-        ),
+    };
+    let job = Steps {
+        rt,
+        steps: steps.as_slice(),
+    };
+    match carry_out(rt.alloc(), &job, &feed, strip) {
+        Ok(outcome) => rt.print(left_text(rt.alloc(), &outcome.left)?)?,
+        Err(CarryError::Refused(refusal)) => rt.println(InNumbers(Answer::Refused(refusal)))?,
+        Err(CarryError::Failed(error)) => return Err(error),
     }
+    Ok(())
 }

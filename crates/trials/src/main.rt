@@ -11,72 +11,30 @@ mod show;
 
 use anyhow::anyhow;
 use carry::carry_out_trial;
-use plan::{Line, Step, Trial, Work};
-use read::read_line;
-use script::plan::{FeedPlan, Part, StripPlan};
-use std::alloc::Global;
+use plan::Trial;
+use read::{Said, read_line};
 use std::io::{BufRead, BufReader};
 
-// A trial without calls, over an empty feed and a strip without space.
-fn new_trial(heap: Global, name: String, work: Work) -> Trial {
-    Trial {
-        name,
-        feed: FeedPlan::Trace(Vec::new(heap)),
-        strip: StripPlan::Records(0),
-        work,
-    }
-}
-
-fn finish(rt: &HostRuntime, trial: Option<Trial>) -> anyhow::Result<()> {
-    match trial {
-        Some(trial) => {
-            rt.print(trial.work.word())?;
-            rt.print(" ")?;
-            rt.println(trial.name.as_str())?;
-            carry_out_trial(rt, &trial)
-        }
-        None => Ok(()),
-    }
-}
-
-fn add(trial: &mut Trial, part: Part) -> anyhow::Result<()> {
-    match part {
-        Part::Feed(feed) => drop(std::mem::replace(&mut trial.feed, feed)),
-        Part::Strip(strip) => trial.strip = strip,
-        Part::Call(call) => trial.work.add(Step::Call(call))?,
-    }
-    Ok(())
-}
-
 fn begun(trial: &mut Option<Trial>) -> anyhow::Result<&mut Trial> {
-    match trial {
-        Some(current) => Ok(current),
-        None => Err(anyhow!("no trial has begun")),
-    }
+    trial.as_mut().ok_or(anyhow!("no trial has begun"))
 }
 
 // A line that begins a trial has the one before carried out; any other adds to the trial.
 fn take_line(rt: &HostRuntime, trial: &mut Option<Trial>, text: &str) -> anyhow::Result<()> {
     match read_line(rt.alloc(), text)? {
-        Line::Nothing => Ok(()),
-        Line::Trial(name) => {
-            let before = trial.replace(new_trial(
-                rt.alloc(),
-                name,
-                Work::Steps(Vec::new(rt.alloc())),
-            ));
-            finish(rt, before)
+        None => Ok(()),
+        Some(Said::Begins(name, work)) => {
+            finish(rt, trial.replace(Trial::new(rt.alloc(), name, work)))
         }
-        Line::Session(name) => {
-            let before = trial.replace(new_trial(
-                rt.alloc(),
-                name,
-                Work::Session(Vec::new(rt.alloc())),
-            ));
-            finish(rt, before)
-        }
-        Line::Part(part) => add(begun(trial)?, part),
-        Line::Step(step) => begun(trial)?.work.add(step),
+        Some(Said::Line(line)) => begun(trial)?.add_line(line),
+        Some(Said::Step(step)) => begun(trial)?.add_step(step),
+    }
+}
+
+fn finish(rt: &HostRuntime, trial: Option<Trial>) -> anyhow::Result<()> {
+    match trial {
+        Some(trial) => carry_out_trial(rt, trial),
+        None => Ok(()),
     }
 }
 

@@ -1,6 +1,7 @@
 // What stands on standard input, as values.
 use anyhow::anyhow;
-use script::plan::{CallPlan, FeedPlan, Part, StripPlan};
+use notation::plan::{CallPlan, FeedPlan, Line, StripPlan};
+use std::alloc::Global;
 
 // What is asked of the sequencer, and of the memory that sheets are written to.
 #[derive(Drop)]
@@ -38,14 +39,6 @@ impl Work {
             Work::Session(_) => "session",
         }
     }
-
-    pub fn add(&mut self, step: Step) -> anyhow::Result<()> {
-        match (self, step) {
-            (Work::Steps(steps), step) => Ok(steps.push(step)?),
-            (Work::Session(calls), Step::Call(call)) => Ok(calls.push(call)?),
-            (Work::Session(_), _) => Err(anyhow!("a session has calls only")),
-        }
-    }
 }
 
 // A trial: work with a new sequencer, between one feed and one strip.
@@ -57,12 +50,32 @@ pub struct Trial {
     pub work: Work,
 }
 
-// What one line says: it begins a trial, or adds to one.
-#[derive(Drop)]
-pub enum Line {
-    Nothing,
-    Trial(String),
-    Session(String),
-    Part(Part),
-    Step(Step),
+impl Trial {
+    // A trial over an empty feed and a strip without space.
+    pub fn new(heap: Global, name: String, work: Work) -> Trial {
+        Trial {
+            name,
+            feed: FeedPlan::Trace(Vec::new(heap)),
+            strip: StripPlan::Records(0),
+            work,
+        }
+    }
+
+    pub fn add_step(&mut self, step: Step) -> anyhow::Result<()> {
+        match (&mut self.work, step) {
+            (Work::Steps(steps), step) => Ok(steps.push(step)?),
+            (Work::Session(calls), Step::Call(call)) => Ok(calls.push(call)?),
+            (Work::Session(_), _) => Err(anyhow!("a session has calls only")),
+        }
+    }
+
+    // Takes in a line that a session may have. Of feeds and strips the last counts.
+    pub fn add_line(&mut self, line: Line) -> anyhow::Result<()> {
+        match line {
+            Line::Feed(feed) => self.feed = feed,
+            Line::Strip(strip) => self.strip = strip,
+            Line::Call(call) => self.add_step(Step::Call(call))?,
+        }
+        Ok(())
+    }
 }

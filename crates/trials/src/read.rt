@@ -1,7 +1,16 @@
 // Reading the lines of standard input.
-use crate::plan::{Line, Step};
-use script::read::{bytes_in, part_of, words_of};
+use crate::plan::{Step, Work};
+use notation::plan::Line;
+use script::read::{bytes_in, line_of, words_of};
 use std::alloc::Global;
+
+// What a line with words says: it begins a trial of this name, or adds to one.
+#[derive(Drop)]
+pub enum Said {
+    Begins(String, Work),
+    Line(Line),
+    Step(Step),
+}
 
 // A step that no session has.
 fn step_of(heap: Global, words: &[&str]) -> anyhow::Result<Option<Step>> {
@@ -19,20 +28,26 @@ fn step_of(heap: Global, words: &[&str]) -> anyhow::Result<Option<Step>> {
     })
 }
 
-fn line_of(heap: Global, words: &[&str]) -> anyhow::Result<Line> {
+fn begins(heap: Global, name: &str, work: Work) -> anyhow::Result<Said> {
+    Ok(Said::Begins(String::from_str(heap, name)?, work))
+}
+
+fn said_by(heap: Global, words: &[&str]) -> anyhow::Result<Said> {
     match words {
-        [] => Ok(Line::Nothing),
-        ["trial", name] => Ok(Line::Trial(String::from_str(heap, *name)?)),
-        ["session", name] => Ok(Line::Session(String::from_str(heap, *name)?)),
+        ["trial", name] => begins(heap, *name, Work::Steps(Vec::new(heap))),
+        ["session", name] => begins(heap, *name, Work::Session(Vec::new(heap))),
         _ => match step_of(heap, words)? {
-            Some(step) => Ok(Line::Step(step)),
-            None => Ok(Line::Part(part_of(heap, words)?)),
+            Some(step) => Ok(Said::Step(step)),
+            None => Ok(Said::Line(line_of(heap, words)?)),
         },
     }
 }
 
-// Reads a line of a trial.
-pub fn read_line(heap: Global, text: &str) -> anyhow::Result<Line> {
+// Reads a line; one without words says nothing.
+pub fn read_line(heap: Global, text: &str) -> anyhow::Result<Option<Said>> {
     let words = words_of(heap, text)?;
-    line_of(heap, words.as_slice())
+    if words.is_empty() {
+        return Ok(None);
+    }
+    Ok(Some(said_by(heap, words.as_slice())?))
 }

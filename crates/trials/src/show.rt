@@ -1,61 +1,42 @@
-// Printing the length of a sheet, and a program's code, word for word or as a sum.
-use script::show::print_refusal;
-use std::io;
+// A program's code, word for word or as a sum.
+use planned::show::push_words;
+use sheet::layout::Entry;
+use std::{fmt, io};
 use vocabulary::code::Word;
 use vocabulary::node::Node;
-use vocabulary::refusal::Refusal;
 
-// What finish and archive answer: the length of the sheet.
-pub fn print_length(rt: &HostRuntime, answer: Result<usize, Refusal>) -> io::Result<()> {
-    match answer {
-        Ok(length) => println!(rt; "length {length}"),
-        Err(refusal) => print_refusal(rt, refusal),
+// A word as opcode, node and operand.
+#[derive(Clone, Copy)]
+struct InNumbers(Word);
+
+impl fmt::Display for InNumbers {
+    fn fmt<W: fmt::Write>(&self, f: &mut fmt::Formatter<W>) -> fmt::Result {
+        let opcode = self.0.instruction.opcode();
+        let node = self.0.node;
+        let operand = self.0.instruction.operand();
+        write!(f, "{opcode}:{node}:{operand}")
     }
 }
 
-// Each word as opcode, node and operand.
+// Each word in numbers.
 pub fn print_code(rt: &HostRuntime, code: &[Word]) -> io::Result<()> {
-    print!(rt; "code")?;
-    for word in code {
-        let opcode = word.instruction.opcode();
-        let node = word.node;
-        let operand = word.instruction.operand();
-        print!(rt; " {opcode}:{node}:{operand}")?;
-    }
-    println!(rt; "")
+    let mut text = String::from_str(rt.alloc(), "code")?;
+    push_words(&mut text, code, InNumbers)?;
+    rt.println(text)
 }
 
-// The 32-bit FNV-1a sum, gone on with over these bytes.
-fn summed(sum: u32, bytes: &[u8]) -> u32 {
-    let mut at = sum;
-    for byte in bytes {
-        at = (at ^ u32::from(*byte)).wrapping_mul(16777619);
-    }
-    at
+// The 32-bit FNV-1a sum, gone on with over the bytes of these entries, as a sheet has them.
+fn summed<T: Entry>(sum: u32, entries: &[T]) -> u32 {
+    entries.iter().fold(sum, |sum, entry| {
+        entry.to_bytes().iter().fold(sum, |sum, byte| {
+            (sum ^ u32::from(*byte)).wrapping_mul(16777619)
+        })
+    })
 }
 
-fn summed_node(sum: u32, node: Node) -> u32 {
-    let head = summed(sum, &[node.kind, node.tag]);
-    let a = summed(head, &node.a.to_le_bytes());
-    let b = summed(a, &node.b.to_le_bytes());
-    summed(b, &node.c.to_le_bytes())
-}
-
-fn summed_word(sum: u32, word: Word) -> u32 {
-    let head = summed(sum, &[word.instruction.opcode(), 0]);
-    let node = summed(head, &word.node.to_le_bytes());
-    summed(node, &word.instruction.operand().to_le_bytes())
-}
-
-// The counts of nodes and of words, and a sum over both, as a sheet has them.
+// The counts of nodes and of words, and a sum over both.
 pub fn print_sum(rt: &HostRuntime, nodes: &[Node], code: &[Word]) -> io::Result<()> {
-    let mut sum = 2166136261u32;
-    for node in nodes {
-        sum = summed_node(sum, *node);
-    }
-    for word in code {
-        sum = summed_word(sum, *word);
-    }
+    let sum = summed(summed(2166136261, nodes), code);
     let n = nodes.len();
     let m = code.len();
     println!(rt; "sum {n} {m} {sum}")

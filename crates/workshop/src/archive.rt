@@ -1,7 +1,7 @@
 // `workshop sheet`: writes the archive sheet of a table.
-use crate::files::{Form, read_file};
+use crate::files::{Form, Given, read_file};
 use crate::stop::{Stop, stopped};
-use crate::verdict::{accept_bytes, counts_text};
+use crate::verdict::Size;
 use sequencer::state::Sequencer;
 use std::fs;
 
@@ -40,12 +40,11 @@ fn write_new(rt: &HostRuntime, path: &str, bytes: &[u8]) -> Result<(), Stop> {
 }
 
 pub fn write_sheet_of(rt: &HostRuntime, table: &str, sheet: &str) -> Result<(), Stop> {
-    let bytes = read_file(rt, table)?;
     let mut sequencer = Sequencer::new();
-    accept_bytes(rt, &mut sequencer, table, Form::Table, bytes.as_slice())?;
+    Given::read_as(rt, table, Form::Table)?.accept(rt, &mut sequencer)?;
     let written = sheet_bytes(rt, &sequencer)?;
     write_new(rt, sheet, written.as_slice())?;
-    let counts = counts_text(rt.alloc(), &sequencer)?;
+    let counts = Size::of(&sequencer);
     let size = written.len();
     println!(rt; "written: {sheet}, {size} bytes: {counts}")?;
     Ok(())

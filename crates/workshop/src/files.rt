@@ -1,48 +1,107 @@
 // Tables and sheets in files.
+use crate::advice::table_advice;
+use crate::sheet_advice::sheet_advice;
 use crate::stop::Stop;
+use notation::plan::CallPlan;
 use sequencer::state::Sequencer;
-use std::fs;
+use std::alloc::{AllocError, Global};
+use std::{fmt, fs};
 use vocabulary::refusal::Refusal;
 
 // What a file is taken for.
-#[derive(Clone, Copy)]
+#[derive(Clone, Copy, PartialEq, Eq, Debug)]
 pub enum Form {
     Table,
     Sheet,
 }
 
-// A sheet begins with 1 and has 16 in its fourth field. No accepted table begins so: its first node would be an assignment
-// with something in field c.
-pub fn form_of(bytes: &[u8]) -> Form {
-    match bytes {
-        [1, 0, _, _, _, _, 16, 0, ..] => Form::Sheet,
-        _ => Form::Table,
-    }
-}
-
-impl Form {
-    pub fn word(self) -> &'static str {
-        match self {
+impl fmt::Display for Form {
+    fn fmt<W: fmt::Write>(&self, f: &mut fmt::Formatter<W>) -> fmt::Result {
+        f.write_str(match self {
             Form::Table => "table",
             Form::Sheet => "sheet",
-        }
+        })
     }
+}
 
-    // Has the bytes loaded or opened.
-    pub fn accept(self, sequencer: &mut Sequencer, bytes: &[u8]) -> Result<(), Refusal> {
-        match self {
-            Form::Table => sequencer.load(bytes),
-            Form::Sheet => sequencer.open(bytes),
+// What bytes begin as. A sheet begins with 1 and has 16 in its fourth field. No accepted table begins so: its first node would
+// be an assignment with something in field c.
+impl From<&[u8]> for Form {
+    fn from(bytes: &[u8]) -> Form {
+        match bytes {
+            [1, 0, _, _, _, _, 16, 0, ..] => Form::Sheet,
+            _ => Form::Table,
         }
     }
 }
 
-// The largest sheet has 16 + 8 * 512 + 8 * 1537 bytes; what is longer is not read to its end.
-const LONGEST: usize = 16408;
+// A file that was given: where it is, what it is taken for, and its bytes.
+#[derive(Drop)]
+pub struct Given<'a> {
+    pub path: &'a str,
+    pub form: Form,
+    pub bytes: Vec<u8>,
+}
 
 pub fn read_file(rt: &HostRuntime, path: &str) -> Result<Vec<u8>, Stop> {
     match fs::read(rt, path) {
         Ok(bytes) => Ok(bytes),
         Err(error) => Err(Stop::Message(format!(in rt.alloc(); "cannot read {path}: {error}")?)),
+    }
+}
+
+impl<'a> Given<'a> {
+    // A file, taken for what it begins as.
+    pub fn read(rt: &HostRuntime, path: &'a str) -> Result<Given<'a>, Stop> {
+        let bytes = read_file(rt, path)?;
+        Ok(Given {
+            path,
+            form: Form::from(bytes.as_slice()),
+            bytes,
+        })
+    }
+
+    // A file, taken for this.
+    pub fn read_as(rt: &HostRuntime, path: &'a str, form: Form) -> Result<Given<'a>, Stop> {
+        let bytes = read_file(rt, path)?;
+        Ok(Given { path, form, bytes })
+    }
+
+    // Has the bytes loaded or opened.
+    pub fn load(&self, sequencer: &mut Sequencer) -> Result<(), Refusal> {
+        match self.form {
+            Form::Table => sequencer.load(self.bytes.as_slice()),
+            Form::Sheet => sequencer.open(self.bytes.as_slice()),
+        }
+    }
+
+    // The call of a session that does the same.
+    pub fn into_call(self) -> CallPlan {
+        match self.form {
+            Form::Table => CallPlan::Load(self.bytes),
+            Form::Sheet => CallPlan::Open(self.bytes),
+        }
+    }
+
+    // A refusal and what it is about, in two lines.
+    pub fn refusal_text(&self, heap: Global, refusal: Refusal) -> Result<String, AllocError> {
+        let advice = match self.form {
+            Form::Table => table_advice(heap, self.bytes.as_slice(), refusal)?,
+            Form::Sheet => sheet_advice(heap, self.bytes.as_slice(), refusal)?,
+        };
+        format!(in heap; "{refusal}\n{advice}")
+    }
+
+    // Has the bytes loaded or opened; a refusal stops the command, with words for standard error.
+    pub fn accept(&self, rt: &HostRuntime, sequencer: &mut Sequencer) -> Result<(), Stop> {
+        let Err(refusal) = self.load(sequencer) else {
+            return Ok(());
+        };
+        let words = self.refusal_text(rt.alloc(), refusal)?;
+        let path = self.path;
+        let taken = self.form;
+        Err(Stop::Message(format!(in rt.alloc();
+            "{path} is neither a table nor a sheet that is accepted. As a {taken}: {words}"
+        )?))
     }
 }

@@ -1,6 +1,6 @@
 // `workshop list`: tree and code of a table or a sheet on one page.
+use crate::files::Given;
 use crate::stop::Stop;
-use crate::verdict::accept_file;
 use listing::listing;
 use sequencer::state::Sequencer;
 
@@ -14,8 +14,9 @@ pub fn print_page(rt: &HostRuntime, sequencer: &Sequencer) -> Result<(), Stop> {
 
 pub fn list(rt: &HostRuntime, path: &str) -> Result<(), Stop> {
     let mut sequencer = Sequencer::new();
-    let form = accept_file(rt, &mut sequencer, path)?;
-    let word = form.word();
-    println!(rt; "Program: {path}, a {word}\n")?;
+    let given = Given::read(rt, path)?;
+    given.accept(rt, &mut sequencer)?;
+    let form = given.form;
+    println!(rt; "Program: {path}, a {form}\n")?;
     print_page(rt, &sequencer)
 }

@@ -4,8 +4,6 @@
 
 mod advice;
 mod archive;
-mod countdown;
-mod demonstration;
 mod files;
 mod list;
 mod options;
@@ -18,9 +16,10 @@ mod visible;
 mod words;
 
 use archive::write_sheet_of;
-use demonstration::demonstrate;
 use files::Form;
-use list::list;
+use list::{list, print_page};
+use planned::demonstration::demonstrate;
+use planned::show::{answers_in_numbers, answers_in_words};
 use run::run;
 use sessions::run_session;
 use std::env;
@@ -54,14 +53,14 @@ The status is 0 where the command was carried out, and 1 where it was refused.";
 
 fn carry_out(rt: &HostRuntime, words: &[&str]) -> Result<(), Stop> {
     match words {
-        [] => demonstrate(rt),
+        [] => demonstrate(rt, print_page),
         ["check", table] => judge(rt, *table, Form::Table),
         ["list", file] => list(rt, *file),
         ["sheet", table, sheet] => write_sheet_of(rt, *table, *sheet),
         ["open", sheet] => judge(rt, *sheet, Form::Sheet),
         ["run", file, options @ ..] => run(rt, *file, options),
-        ["session"] => run_session(rt, false),
-        ["session", "--words"] => run_session(rt, true),
+        ["session"] => run_session(rt, answers_in_numbers),
+        ["session", "--words"] => run_session(rt, answers_in_words),
         ["help"] | ["--help"] | ["-h"] => Ok(rt.println(USAGE)?),
         [command, ..] => {
             let word = *command;

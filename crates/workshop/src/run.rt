@@ -1,13 +1,14 @@
 // `workshop run`: a table or a sheet, run to its end or until the fuel is spent, by the proved session.
-use crate::files::{Form, form_of, read_file};
-use crate::options::{MOST_OF_A_RUN, Options, options_in};
+use crate::files::Given;
+use crate::options::options_in;
 use crate::stop::Stop;
-use crate::verdict::{accept_bytes, counts_text};
-use notation::line::line_text;
-use notation::plan::{CallPlan, FeedPlan, Line, StripPlan};
-use planned::carry::{Filled, Left};
-use planned::show::add_items;
-use planned::whole::{Outcome, carry_out_session};
+use crate::verdict::Size;
+use notation::plan::CallPlan;
+use planned::carry::{CarryError, Filled, Left, Outcome};
+use planned::plan::Session;
+use planned::show::{AsValue, push_items};
+use planned::whole::carry_out_session;
+use sequencer::fuel::RUN_FUEL;
 use sequencer::report::Report;
 use sequencer::state::Sequencer;
 use session::Answer;
@@ -15,16 +16,12 @@ use std::alloc::{AllocError, Global};
 use std::io;
 
 // The calls: the program, runs until the fuel is granted, and a report.
-fn calls(heap: Global, form: Form, bytes: Vec<u8>, fuel: u32) -> Result<Vec<CallPlan>, AllocError> {
-    let mut calls = Vec::new(heap);
-    calls.push(match form {
-        Form::Table => CallPlan::Load(bytes),
-        Form::Sheet => CallPlan::Open(bytes),
-    })?;
-    for _ in 0..fuel / MOST_OF_A_RUN {
-        calls.push(CallPlan::Run(MOST_OF_A_RUN))?;
+fn calls(heap: Global, program: CallPlan, fuel: u32) -> Result<Vec<CallPlan>, AllocError> {
+    let mut calls = vec![in heap; program]?;
+    for _ in 0..fuel / RUN_FUEL {
+        calls.push(CallPlan::Run(RUN_FUEL))?;
     }
-    let rest = fuel % MOST_OF_A_RUN;
+    let rest = fuel % RUN_FUEL;
     if rest > 0 || fuel == 0 {
         calls.push(CallPlan::Run(rest))?;
     }
@@ -46,12 +43,7 @@ fn print_strip(rt: &HostRuntime, left: &Left) -> io::Result<()> {
             let used = records.len();
             println!(rt; "strip: records, {used} filled and {space} free")?;
             for record in records.as_slice() {
-                let number = record.number;
-                match record.sort {
-                    0 => println!(rt; "{number}")?,
-                    _ if number == 0 => println!(rt; "false")?,
-                    _ => println!(rt; "true")?,
-                }
+                rt.println(AsValue(*record))?;
             }
             Ok(())
         }
@@ -64,18 +56,17 @@ fn print_strip(rt: &HostRuntime, left: &Left) -> io::Result<()> {
 }
 
 fn print_feed(rt: &HostRuntime, left: &Left) -> io::Result<()> {
-    let count = left.items.len();
     let mut items = String::new(rt.alloc());
-    add_items(&mut items, left.items.as_slice())?;
-    match count {
+    push_items(&mut items, left.items.as_slice())?;
+    match left.items.len() {
         0 => rt.println("feed: empty"),
         1 => println!(rt; "feed: 1 item left:{items}"),
-        _ => println!(rt; "feed: {count} items left:{items}"),
+        count => println!(rt; "feed: {count} items left:{items}"),
     }
 }
 
-fn print_outcome(rt: &HostRuntime, outcome: &Outcome) -> io::Result<()> {
-    match report_in(outcome.answers.as_slice()) {
+fn print_outcome(rt: &HostRuntime, outcome: &Outcome<Vec<Answer>>) -> io::Result<()> {
+    match report_in(outcome.answer.as_slice()) {
         Some(report) if report.ended() => println!(rt; "run: {report}")?,
         Some(report) => println!(rt; "run: {report}, when the fuel was spent; --fuel grants more")?,
         None => (),
@@ -84,17 +75,13 @@ fn print_outcome(rt: &HostRuntime, outcome: &Outcome) -> io::Result<()> {
     print_feed(rt, &outcome.left)
 }
 
-// The session that does what a run with these options does, as text.
-fn print_session(
-    rt: &HostRuntime,
-    feed: FeedPlan,
-    strip: StripPlan,
-    calls: Vec<CallPlan>,
-) -> Result<(), Stop> {
-    rt.println(line_text(rt.alloc(), &Line::Feed(feed))?)?;
-    rt.println(line_text(rt.alloc(), &Line::Strip(strip))?)?;
-    for call in calls {
-        rt.println(line_text(rt.alloc(), &Line::Call(call))?)?;
+// The session that does what a run does, as text.
+fn print_session(rt: &HostRuntime, session: &Session) -> io::Result<()> {
+    let feed = &session.feed;
+    let strip = session.strip;
+    println!(rt; "{feed}\n{strip}")?;
+    for call in session.calls.as_slice() {
+        println!(rt; "{call}")?;
     }
     Ok(())
 }
@@ -103,21 +90,24 @@ pub fn run(rt: &HostRuntime, path: &str, words: &[&str]) -> Result<(), Stop> {
     let options = options_in(rt, words)?;
     let feed = options.feed_plan(rt)?;
     let strip = options.strip_plan(rt)?;
-    let bytes = read_file(rt, path)?;
-    let form = form_of(bytes.as_slice());
+    let given = Given::read(rt, path)?;
+    let form = given.form;
     let mut sequencer = Sequencer::new();
-    accept_bytes(rt, &mut sequencer, path, form, bytes.as_slice())?;
-    let calls = calls(rt.alloc(), form, bytes, options.fuel)?;
+    given.accept(rt, &mut sequencer)?;
+    let calls = calls(rt.alloc(), given.into_call(), options.fuel)?;
+    let session = Session { feed, strip, calls };
     if options.as_session {
-        return print_session(rt, feed, strip, calls);
+        return Ok(print_session(rt, &session)?);
     }
-    match carry_out_session(rt.alloc(), calls.as_slice(), &feed, strip)? {
+    match carry_out_session(rt.alloc(), &session) {
         Ok(outcome) => {
-            let counts = counts_text(rt.alloc(), &sequencer)?;
-            let word = form.word();
-            println!(rt; "program: {path}, a {word}: {counts}")?;
+            let counts = Size::of(&sequencer);
+            println!(rt; "program: {path}, a {form}: {counts}")?;
             Ok(print_outcome(rt, &outcome)?)
         }
-        Err(refusal) => Err(Stop::Message(format!(in rt.alloc(); "--feed: {refusal}")?)),
+        Err(CarryError::Refused(refusal)) => {
+            Err(Stop::Message(format!(in rt.alloc(); "--feed: {refusal}")?))
+        }
+        Err(CarryError::Failed(error)) => Err(error.into()),
     }
 }

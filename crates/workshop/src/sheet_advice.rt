@@ -1,10 +1,9 @@
 // What a refusal of a sheet is about.
 use crate::advice::table_advice;
 use sequencer::state::Sequencer;
-use sheet::layout::{ENTRY, Entry, HEADER};
+use sheet::layout::{Counts, ENTRY, Entry, HEADER};
 use sheet::open::{Header, open_header};
-use std::alloc::Global;
-use std::io;
+use std::alloc::{AllocError, Global};
 use vocabulary::refusal::{Cause, Refusal};
 
 // A number of the header: what it is called, what it is, and what it has to be.
@@ -15,9 +14,17 @@ struct Number {
     wanted: usize,
 }
 
+fn counts_in(header: Header) -> Counts {
+    Counts {
+        nodes: header.nodes,
+        words: header.words,
+    }
+}
+
 fn numbers(header: Header, size: usize) -> [Number; 7] {
-    let code_at = HEADER + ENTRY * usize::from(header.nodes);
-    let total = code_at + ENTRY * usize::from(header.words);
+    let counts = counts_in(header);
+    let code_at = counts.code_at();
+    let total = counts.total();
     [
         Number {
             called: "field 1 (the version)",
@@ -57,26 +64,23 @@ fn numbers(header: Header, size: usize) -> [Number; 7] {
     ]
 }
 
-fn header_advice(heap: Global, sheet: &[u8]) -> io::Result<String> {
+fn header_advice(heap: Global, sheet: &[u8]) -> Result<String, AllocError> {
     let size = sheet.len();
     let Some(header) = open_header(sheet) else {
-        return Ok(format!(in heap; "it has {size} bytes; the header alone has 16")?);
+        return format!(in heap; "it has {size} bytes; the header alone has 16");
     };
     if header.version == 1 && header.code_at == 0 && header.total == 0 {
-        return Ok(format!(in heap;
+        return format!(in heap;
             "it is a half sheet, started and not finished; write it anew from its table"
-        )?);
+        );
     }
     let n = header.nodes;
     let m = header.words;
-    for number in numbers(header, size) {
-        if number.is != number.wanted {
-            let called = number.called;
-            let is = number.is;
-            let wanted = number.wanted;
-            return Ok(format!(in heap;
+    for Number { called, is, wanted } in numbers(header, size) {
+        if is != wanted {
+            return format!(in heap;
                 "{called} is {is}; with {n} nodes and {m} code words it must be {wanted}"
-            )?);
+            );
         }
     }
     Ok(String::new(heap))
@@ -87,7 +91,7 @@ fn table_in(sheet: &[u8]) -> &[u8] {
     let Some(header) = open_header(sheet) else {
         return sheet;
     };
-    let code_at = HEADER + ENTRY * usize::from(header.nodes);
+    let code_at = counts_in(header).code_at();
     if code_at <= sheet.len() {
         &sheet[HEADER..code_at]
     } else {
@@ -96,37 +100,32 @@ fn table_in(sheet: &[u8]) -> &[u8] {
 }
 
 // The first code word that is not the translation's.
-fn code_advice(heap: Global, sheet: &[u8]) -> io::Result<String> {
+fn code_advice(heap: Global, sheet: &[u8]) -> Result<String, AllocError> {
     let table = table_in(sheet);
     let mut sequencer = Sequencer::new();
     if sequencer.load(table).is_err() {
         return Ok(String::new(heap));
     }
-    let mut rest = sheet;
-    if HEADER + table.len() <= sheet.len() {
-        rest = &sheet[HEADER + table.len()..];
-    }
-    for (position, word) in sequencer.code().iter().enumerate() {
-        let wanted = word.to_bytes();
-        if rest.len() < ENTRY {
-            break;
-        }
-        if &rest[0..ENTRY] != &wanted[..] {
-            let name = word.instruction.name();
-            let operand = word.instruction.operand();
-            let node = word.node;
-            return Ok(format!(in heap;
+    let (_, code) = sheet
+        .split_at_checked(HEADER + table.len())
+        .unwrap_or((&[], sheet));
+    let entries = code.chunks_exact(ENTRY);
+    for ((position, word), entry) in sequencer.code().iter().enumerate().zip(entries) {
+        let name = word.instruction.name();
+        let operand = word.instruction.operand();
+        let node = word.node;
+        if entry != word.to_bytes().as_slice() {
+            return format!(in heap;
                 "code word {position} is not {name} {operand} at node {node}, which the tree has there; the sheet was altered, or is not ours"
-            )?);
+            );
         }
-        rest = &rest[ENTRY..];
     }
     let words = sequencer.code().len();
-    Ok(format!(in heap; "the tree has {words} code words, and the sheet another number of them")?)
+    format!(in heap; "the tree has {words} code words, and the sheet another number of them")
 }
 
 // A sentence on a refusal of a sheet.
-pub fn sheet_advice(heap: Global, sheet: &[u8], refusal: Refusal) -> io::Result<String> {
+pub fn sheet_advice(heap: Global, sheet: &[u8], refusal: Refusal) -> Result<String, AllocError> {
     match refusal.cause {
         Cause::SheetHeader => header_advice(heap, sheet),
         Cause::NotTheTranslation => code_advice(heap, sheet),

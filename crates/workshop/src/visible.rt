@@ -1,11 +1,12 @@
 // Which declarations are visible at a node of a table whose shape was accepted.
-use language::kind::Rule;
-use language::rules::fields_of;
+use language::kind::Kind;
+use language::rules::children;
 use std::alloc::{AllocError, Global};
+use std::fmt;
 use vocabulary::node::Node;
 
 // What a name was declared as.
-#[derive(Clone, Copy)]
+#[derive(Clone, Copy, PartialEq, Eq, Debug)]
 pub enum Declared {
     Constant,
     Variable,
@@ -22,49 +23,32 @@ pub struct Visible {
     pub node: usize,
 }
 
-impl Declared {
-    pub fn words(self) -> &'static str {
-        match self {
+impl fmt::Display for Declared {
+    fn fmt<W: fmt::Write>(&self, f: &mut fmt::Formatter<W>) -> fmt::Result {
+        f.write_str(match self {
             Declared::Constant => "a constant",
             Declared::Variable => "a variable",
             Declared::Parameter => "a parameter",
             Declared::Procedure => "a procedure",
             Declared::Function => "a function",
-        }
+        })
     }
 }
 
 // What a declaration leaves visible behind it.
-fn declared_by(kind: u8) -> Option<Declared> {
+fn declared_by(kind: Kind) -> Option<Declared> {
     match kind {
-        10 => Some(Declared::Constant),
-        11 => Some(Declared::Variable),
-        12 => Some(Declared::Procedure),
-        13 => Some(Declared::Function),
+        Kind::Constant => Some(Declared::Constant),
+        Kind::Variable => Some(Declared::Variable),
+        Kind::Procedure => Some(Declared::Procedure),
+        Kind::Function => Some(Declared::Function),
         _ => None,
     }
 }
 
-// Walks on to the child in a field, if the field has one. A child is lower than its parent in every table of accepted
-// shape; the test makes the walk end for any other.
-#[cycle(walk_walk_child)]
-fn walk_child(
-    nodes: &[Node],
-    n: usize,
-    rule: Rule,
-    child: u16,
-    target: usize,
-    scope: &mut Vec<Visible>,
-) -> Result<bool, AllocError> {
-    match rule {
-        Rule::Child(_) if usize::from(child) < n => walk(nodes, usize::from(child), target, scope),
-        _ => Ok(false),
-    }
-}
-
 // Walks the tree of node `n` in the order of the check of names, until the target is met: `scope` then has what is visible
-// there, the latest last. Answers whether it was met.
-#[cycle(walk_walk_child)]
+// there, the latest last. Answers whether it was met. A child is lower than its parent in every table of accepted shape; the
+// test makes the walk end for any other.
 fn walk(
     nodes: &[Node],
     n: usize,
@@ -74,30 +58,30 @@ fn walk(
     if n == target {
         return Ok(true);
     }
-    if n >= nodes.len() {
+    let Some(node) = nodes.get(n) else {
         return Ok(false);
-    }
-    let node = nodes[n];
+    };
+    let Ok(kind) = Kind::try_from(node.kind) else {
+        return Ok(false);
+    };
     let before = scope.len();
-    if matches!(node.kind, 12 | 13) {
+    if matches!(kind, Kind::Procedure | Kind::Function) {
         scope.push(Visible {
             declared: Declared::Parameter,
             name: node.c,
             node: n,
         })?;
     }
-    if let Some(fields) = fields_of(node.kind) {
-        if walk_child(nodes, n, fields.a, node.a, target, scope)?
-            || walk_child(nodes, n, fields.b, node.b, target, scope)?
-            || walk_child(nodes, n, fields.c, node.c, target, scope)?
-        {
+    for child in children(*node).as_slice() {
+        let child = usize::from(child.number);
+        if child < n && walk(nodes, child, target, scope)? {
             return Ok(true);
         }
     }
-    if matches!(node.kind, 5 | 12 | 13) {
+    if matches!(kind, Kind::Block | Kind::Procedure | Kind::Function) {
         scope.truncate(before);
     }
-    if let Some(declared) = declared_by(node.kind) {
+    if let Some(declared) = declared_by(kind) {
         scope.push(Visible {
             declared,
             name: u16::from(node.tag),
@@ -115,11 +99,7 @@ pub fn latest(
     name: u8,
 ) -> Result<Option<Visible>, AllocError> {
     let mut scope = Vec::new(heap);
-    let _ = walk(nodes, nodes.len().saturating_sub(1), target, &mut scope)?;
-    for visible in scope.as_slice().iter().rev() {
-        if visible.name == u16::from(name) {
-            return Ok(Some(*visible));
-        }
-    }
-    Ok(None)
+    let _met = walk(nodes, nodes.len().saturating_sub(1), target, &mut scope)?;
+    let name = u16::from(name);
+    Ok(scope.iter().rev().find(|visible| visible.name == name).copied())
 }

@@ -1,83 +1,40 @@
-// Kinds, fields and rules in words.
-use language::kind::{Rule, Sort};
+// Kinds and rules in words.
+use language::kind::{Kind, Rule};
+use std::fmt;
 use vocabulary::node::Node;
 
-// What a kind is called.
-pub fn form_name(kind: u8) -> &'static str {
-    match kind {
-        1 => "assign",
-        2 => "output",
-        3 => "if",
-        4 => "while",
-        5 => "block",
-        6 => "sequence",
-        7 => "procedure call",
-        10 => "constant",
-        11 => "variable",
-        12 => "procedure",
-        13 => "function",
-        14 => "pair",
-        20 => "number",
-        21 => "truth",
-        22 => "read",
-        23 => "name",
-        24 => "operation",
-        25 => "function call",
-        26 => "choice",
-        _ => "unknown",
+// What a node is called, if there is such a node and its kind is known.
+#[derive(Clone, Copy)]
+pub struct Called(pub Option<Kind>);
+
+impl Called {
+    pub fn at(nodes: &[Node], n: u16) -> Called {
+        Called(nodes.get(usize::from(n)).and_then(|node| Kind::try_from(node.kind).ok()))
     }
 }
 
-pub fn sort_words(sort: Sort) -> &'static str {
-    match sort {
-        Sort::Command => "a command",
-        Sort::Declaration => "a declaration",
-        Sort::Expression => "an expression",
+impl fmt::Display for Called {
+    fn fmt<W: fmt::Write>(&self, f: &mut fmt::Formatter<W>) -> fmt::Result {
+        match self.0 {
+            Some(kind) => write!(f, "{kind}"),
+            None => f.write_str("unknown"),
+        }
     }
 }
 
 // What a field has to hold.
-pub fn rule_words(rule: Rule) -> &'static str {
-    match rule {
-        Rule::Unused => "has no use and must be 0",
-        Rule::Name => "is a name and must be 0 to 255",
-        Rule::Truth => "is a truth and must be 0 or 1",
-        Rule::Operator => "is an operator and must be 1 to 6",
-        Rule::Half => "is half of a number",
-        Rule::Child(_) => "is a child",
-    }
-}
-
-// A field of a node: what it is called, what it has to hold, and what it holds.
 #[derive(Clone, Copy)]
-pub struct Field {
-    pub called: &'static str,
-    pub rule: Rule,
-    pub value: u16,
-}
+pub struct Wanted(pub Rule);
 
-// The four fields of a node, by the rules of its kind.
-pub fn fields_in(node: Node, rules: language::kind::Fields) -> [Field; 4] {
-    [
-        Field {
-            called: "byte 1",
-            rule: rules.tag,
-            value: u16::from(node.tag),
-        },
-        Field {
-            called: "field a",
-            rule: rules.a,
-            value: node.a,
-        },
-        Field {
-            called: "field b",
-            rule: rules.b,
-            value: node.b,
-        },
-        Field {
-            called: "field c",
-            rule: rules.c,
-            value: node.c,
-        },
-    ]
+impl fmt::Display for Wanted {
+    fn fmt<W: fmt::Write>(&self, f: &mut fmt::Formatter<W>) -> fmt::Result {
+        f.write_str(match self.0 {
+            Rule::Unused => "has no use and must be 0",
+            Rule::Name => "is a name and must be 0 to 255",
+            Rule::Truth => "is a truth and must be 0 or 1",
+            Rule::Operator => "is an operator and must be 1 to 6",
+            Rule::Half => "is half of a number",
+            Rule::Child(_) => "is a child",
+        })
+    }
 }
