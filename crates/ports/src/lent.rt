@@ -31,7 +31,8 @@ pub trait Element: Copy {
         ensures { Wrote price written said value free.old free.new result };
 }
 
-// A strip that fills the caller's memory; the first `used` elements are filled.
+// A strip that fills the caller's memory; the first `used` elements are filled. The memory is held whole beside that count,
+// since what a strip keeps is said of all of it.
 #[derive(Drop)]
 pub struct LentStrip<'a, T: Element> {
     memory: &'a mut [T],
