@@ -38,7 +38,7 @@ pub struct LentStrip<'a, T: Element> {
     memory: &'a mut [T],
     used: usize,
     ghost within: { used ≤ length memory.now },
-    ghost whole: { T.written (T.said (take used memory.now)) ≡ take used memory.now } by { Coded-set (coded_list T.code) (T.written (T.said (take used memory.now))) (take used memory.now) },
+    ghost whole: { T.written (T.said (take used memory.now)) ≡ take used memory.now } by { Coded-set (coded_list T.code) _ _ },
 }
 
 // Copies a line to the start of `free`, where there is room, and answers its length.
