@@ -1,6 +1,7 @@
 ghost use Rattle.std.specs.Prelude.{◌≡◌, Some};
-ghost use Rattle.vocabulary.specs.Codes.{name_of, opcode_of, operand_of, operation_name, operator_of};
+ghost use Rattle.vocabulary.specs.Codes.{OperatorIn, name_of, opcode_of, operand_of, operation_name, operator_of};
 
+use std::error::Error;
 use std::fmt;
 
 // The operations on two numbers, in the order of their operator numbers 1 to 6.
@@ -58,8 +59,18 @@ impl Operation {
 #[derive(Clone, Copy, PartialEq, Eq, Debug)]
 pub struct UnknownOperator;
 
+impl fmt::Display for UnknownOperator {
+    fn fmt<W: fmt::Write>(&self, f: &mut fmt::Formatter<W>) -> fmt::Result {
+        f.write_str("operators are 1 to 6")
+    }
+}
+
+impl Error for UnknownOperator {}
+
 impl TryFrom<u8> for Operation {
     type Error = UnknownOperator;
+
+    ghost try_from_gives = { OperatorIn };
 
     fn try_from(operator: u8) -> Result<Operation, UnknownOperator> {
         match operator {

@@ -1,4 +1,4 @@
-use Rattle.std.proofs.Common.{ap, ◌∙◌, sym, take, reverse, rules}
+use Rattle.std.proofs.Common.{ap, ◌∙◌, take, reverse, rules}
 use Rattle.vocabulary.proofs.Tabled.{take_least, reverse-take}
 use Rattle.vocabulary.proofs.table.Table.truncate.Goals as goal
 
