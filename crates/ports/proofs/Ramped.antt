@@ -5,7 +5,7 @@ use Rattle.std.proofs.lemmas.Nat.{mul-le}
 use lib.IntN.{neg_ℤ, pos-*ℤ-pos, pos-*ℤ-negsuc, zero-*ℤ, suc_ℤ-*ℤ, +ℤ_idr, +ℤ_assoc, +ℤ_comm}
 use borrow.Author.Differences.{up, down}
 use lib.Signed.{mag}
-use Rattle.std.proofs.lemmas.Int.{to_z-of_z, ints}
+use Rattle.std.proofs.lemmas.Int.{ints}
 use Rattle.std.proofs.lemmas.Bool.{lt-ltb, ltb-true, and_parts}
 use Rattle.vocabulary.specs.declared.item.Item.TheVariants.{Reading}
 use Rattle.vocabulary.specs.Numbers.{within32}

@@ -2,7 +2,7 @@
 use Rattle.std.proofs.Common.{◌≡◌, ℕ, zero, suc, ◌-◌, ◌<◌, List, [], ◌∷◌, length, get_or, take, drop, ℤ, sym, refl, ap, ◌∙◌, arith}
 use Rattle.std.proofs.lemmas.List.{drop_more, drop_all, take_all, length-drop}
 use Rattle.vocabulary.specs.declared.item.Item.{Item}
-use Rattle.vocabulary.specs.declared.item.Item.TheVariants.{Reading, Fault}
+use Rattle.vocabulary.specs.declared.item.Item.TheVariants.{Fault}
 use Rattle.ports.specs.declared.trace.Record.{Record}
 use Rattle.ports.specs.Traces.{coded, item_of, items_of}
 

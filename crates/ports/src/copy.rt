@@ -3,18 +3,15 @@
 ghost use Rattle.std.specs.Prelude.{◌≡◌, [], length};
 ghost use Rattle.ports.specs.declared.copy.Stop.TheVariants.{Fault as Faulted};
 ghost use Rattle.ports.specs.Copies.{Onto, outcome, copied};
-ghost use Rattle.ports.specs.Lines.{line_length, text_of};
-ghost use Rattle.ports.specs.Records.{one, records_of};
 
 use crate::feed::Feed;
-use crate::records::{OutRecord, RecordStrip};
+use crate::lent::{Element, LentStrip};
 use crate::strip::Strip;
-use crate::text::TextStrip;
 use vocabulary::item::{Fault, Item};
 use vocabulary::value::Plain;
 
 // Why a copy stopped before it had copied as many readings as were asked for.
-#[derive(Clone, Copy)]
+#[derive(Clone, Copy, PartialEq, Eq, Debug)]
 pub enum Stop {
     // no item was left
     Empty,
@@ -48,22 +45,14 @@ pub fn copy<F: Feed, S: Strip>(feed: &mut F, strip: &mut S, limit: usize) -> Res
     Ok(())
 }
 
-// Copies into the caller's records.
-pub fn copy_to_records<F: Feed>(
+// Copies into the caller's memory: as records, or as text.
+pub fn copy_into<F: Feed, T: Element>(
     feed: &mut F,
-    records: &mut [OutRecord],
+    memory: &mut [T],
     limit: usize,
 ) -> Result<(), Stop>
-    ensures { Onto records_of (copied one limit (F.Feed.waiting feed.old) [] (length records.old)) records.old records.new (F.Feed.waiting feed.new) result }
+    ensures { Onto T.Element.written (copied T.Element.price limit (F.Feed.waiting feed.old) [] (length memory.old)) memory.old memory.new (F.Feed.waiting feed.new) result }
 {
-    let mut strip = RecordStrip::new(records);
-    copy(feed, &mut strip, limit)
-}
-
-// Copies into the caller's bytes, as text.
-pub fn copy_to_text<F: Feed>(feed: &mut F, bytes: &mut [u8], limit: usize) -> Result<(), Stop>
-    ensures { Onto text_of (copied line_length limit (F.Feed.waiting feed.old) [] (length bytes.old)) bytes.old bytes.new (F.Feed.waiting feed.new) result }
-{
-    let mut strip = TextStrip::new(bytes);
+    let mut strip = LentStrip::new(memory);
     copy(feed, &mut strip, limit)
 }

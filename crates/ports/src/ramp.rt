@@ -39,10 +39,7 @@ impl Ramp {
                 left: count,
             })
         } else {
-            Err(Refusal {
-                cause: Cause::RampRange,
-                node: 0,
-            })
+            Err(Cause::RampRange.into())
         }
     }
 }

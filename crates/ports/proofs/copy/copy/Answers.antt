@@ -2,7 +2,7 @@ use Rattle.std.proofs.Common.{◌≡◌, ◌+◌, ◌-◌, Some, None, Ok, Err, 
 use Rattle.std.proofs.lemmas.Result.{err_from_is_err_and}
 use Rattle.std.proofs.lemmas.Int.{to_z-of_z}
 use Rattle.vocabulary.specs.declared.item.Item.TheVariants.{Reading, Fault}
-use Rattle.ports.specs.declared.copy.Stop.TheVariants.{Empty, Fault as Faulted, Full}
+use Rattle.ports.specs.declared.copy.Stop.TheVariants.{Empty, Full}
 use Rattle.ports.proofs.Copying.{copied_empty, copied_fault, copied_full, copied_done, was_ok, was_err}
 use Rattle.ports.proofs.copy.copy.Goals as goal
 

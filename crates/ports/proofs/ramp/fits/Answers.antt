@@ -1,7 +1,7 @@
-use Rattle.std.proofs.Common.{◌≡◌, ◌-◌, pos, ◌+ℤ◌, ◌*ℤ◌, sym, ap, ◌∙◌, arith, w32, w64, SFits, rules}
+use Rattle.std.proofs.Common.{◌≡◌, ◌-◌, pos, ◌+ℤ◌, ◌*ℤ◌, sym, ap, ◌∙◌, w32, w64, SFits, rules}
 use Rattle.std.proofs.lemmas.Int.{to_z-of_z}
 use Rattle.vocabulary.specs.Numbers.{within32}
-use Rattle.ports.specs.Ramps.{rung, ramp_fits}
+use Rattle.ports.specs.Ramps.{rung}
 use Rattle.ports.proofs.Ramped.{by_last, wide, decided}
 use Rattle.ports.proofs.ramp.fits.Goals as goal
 
