@@ -110,11 +110,11 @@ impl Counted<'_> {
     }
 
     // A node by itself: the first of its faults.
-    fn check_node(self, n: usize) -> Result<(), Refusal>
-        requires { n < length self.nodes.now }
+    fn check_node(self, n: usize, node: Node) -> Result<(), Refusal>
+        requires here { n < length self.nodes.now }
+        requires is { node ≡ at self.nodes.now n }
         ensures { result ≡ node_verdict self.entry.nodes.now n }
     {
-        let node = self.nodes[n];
         let children = children(node);
         let number = n as u16;
         match node.kind {
@@ -133,8 +133,8 @@ impl Counted<'_> {
     fn check_nodes(self) -> Result<(), Refusal>
         ensures { result ≡ upward (node_verdict self.entry.nodes.now) (length self.entry.nodes.now) 0 }
     {
-        for n in 0..self.nodes.len() {
-            self.check_node(n)?;
+        for (n, node) in self.nodes.iter().enumerate() {
+            self.check_node(n, *node)?;
         }
         Ok(())
     }
