@@ -6,6 +6,7 @@ ghost use Rattle.language.specs.Kinds.{kind_number};
 ghost use Rattle.language.specs.Table.{at, lower, fitting, times, children_in, root_of};
 ghost use Rattle.language.specs.Verdicts.{node_verdict, parent_verdict, root_verdict, upward, shape_verdict, tree_verdict};
 
+use crate::form::Form;
 use crate::kind::{ChildField, Field, Kind, Sort, UnknownKind};
 use crate::rules::children;
 use vocabulary::node::Node;
@@ -42,6 +43,17 @@ impl<'a> Shaped<'a> {
         match Kind::try_from(self.nodes[usize::from(n)].kind) {
             Ok(kind) => kind,
             Err(UnknownKind) => unreachable!(),
+        }
+    }
+
+    // What a node says.
+    pub fn form(self, n: u16) -> Form
+        requires { n < length self.nodes.now }
+        ensures { result.node ≡ at self.entry.nodes.now n }
+    {
+        Form {
+            node: self.nodes[usize::from(n)],
+            kind: self.kind(n),
         }
     }
 }
