@@ -70,12 +70,13 @@ impl Translator<'_> {
         ensures { TranslatedBody (tree_d (nodes self.old) n) self.old self.new result }
     {
         let node = self.node(n);
+        let parameter = node.c as u8;
         let was = self.scope.entries.len();
         let body = Mark {
             translator: self,
             was,
         };
-        body.translator.scope.bind(node.c as u8, Role::Value);
+        body.translator.scope.bind(parameter, Role::Value);
         match role {
             Role::Procedure => body.translator.command(node.a),
             Role::Value | Role::Function => body.translator.expression(node.a),

@@ -281,8 +281,8 @@ routine-returns t c =
     let k = at_routine c.args.self.now c.node-node.ensures c.requires.ready.here c.requires.ready.sort c.requires.kind in
     routine_done k (ap (λ i. i + 2) c.here-start.ensures) c.emit.ensures c.reserve-past.ensures c.in_ok-body.ensures c.emit-2.ensures c.here.ensures c.aim.ensures c.bind.ensures
 
-pub body-overflow_cast-node : goal.body-overflow_cast-node
-body-overflow_cast-node t c =
+pub body-overflow_cast-parameter : goal.body-overflow_cast-parameter
+body-overflow_cast-parameter t c =
     let h : c.node-node.result.c < 256 = parameter c.args.self.now c.node-node.ensures c.requires.ready.here c.requires.kind in
     search rules
 

@@ -20,31 +20,9 @@ plain_value-emit-requires t c = omega (arith, c.requires.room, end_e c.in_ok-exp
 pub plain_value-returns : goal.plain_value-returns
 plain_value-returns t c = plain_done (numbered_e _ (sound_of c.args.self.now) _ c.requires.here c.requires.sort) c.in_ok-expression.ensures c.emit.ensures
 
-pub call-returns-in_err-newer : goal.call-returns-in_err-newer
-call-returns-in_err-newer t c =
-    same_call c.node-node.ensures
-    (record { is = refused (err_from_is_err_and c.from_residual.result c.from_residual.ensures.1) (first _ (sym c.in_err-newer.ensures)) refl refl })
-
-pub call-expression-requires : goal.call-expression-requires
-call-expression-requires t c =
-    let s = c.args.self.now in
-    let k : LowerE (nodes s) c.args.n c.node-node.result.a = subst (λ (d : Node). LowerE (nodes s) c.args.n d.a) (sym c.node-node.ensures) c.requires.argument in
-    (omega (arith, k.0), ready_e s refl c.requires.here k (omega (arith, c.requires.room, ap (λ (d : Node). size_e (tree_e (nodes s) d.a)) c.node-node.ensures)))
-
-pub call-returns-in_err-expression : goal.call-returns-in_err-expression
-call-returns-in_err-expression t c =
-    let q = c.in_err-expression.ensures.is in
-    same_call c.node-node.ensures
-    (record { is = refused (err_from_is_err_and c.from_residual-in_err-expression.result c.from_residual-in_err-expression.ensures.1) (second (sym c.in_ok-newer.ensures.0) q.answer) q.same q.on })
-
 pub call-emit-requires : goal.call-emit-requires
 call-emit-requires t c =
     omega (arith, c.requires.room, end_e c.in_ok-expression.ensures, ap (λ (d : Node). size_e (tree_e (nodes c.args.self.now) d.a)) c.node-node.ensures)
-
-pub call-returns : goal.call-returns
-call-returns t c =
-    same_call c.node-node.ensures
-    (call_done c.in_ok-newer.ensures c.in_ok-expression.ensures c.emit.ensures)
 
 pub choice-plain_value-requires : goal.choice-plain_value-requires
 choice-plain_value-requires t c =
