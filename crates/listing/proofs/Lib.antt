@@ -1,4 +1,4 @@
-pub mod Wording
+pub mod Styling
 pub mod Joining
 pub mod Walking
 pub mod Parting
