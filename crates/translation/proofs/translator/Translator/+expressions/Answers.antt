@@ -1,17 +1,16 @@
-use Rattle.std.proofs.Common.{sym, refl, ap, ◌∙◌, subst, arith, w32, SFits, rules}
+use Rattle.std.proofs.Common.{sym, refl, ap, ◌∙◌, arith, w32, SFits, rules}
 use Rattle.std.proofs.lemmas.Result.{err_from_is_err_and}
 use Rattle.std.proofs.lemmas.Int.{to_z-of_z}
 use Rattle.vocabulary.specs.declared.node.Node.{Node}
 use Rattle.language.specs.Kinds.{kind_number}
 use Rattle.language.specs.Names.{names_e}
 use Rattle.language.specs.Reading.{tree_e}
-use Rattle.language.specs.Sound.{LowerE}
 use Rattle.language.specs.Tree.{size_e}
 use Rattle.translation.specs.Held.{visible}
 use Rattle.translation.specs.Translated.{nodes}
-use Rattle.translation.proofs.Expressions.{number_done, name_done, plain_done, call_done, operation_done, choice_done, same_call}
+use Rattle.translation.proofs.Expressions.{number_done, name_done, plain_done, operation_done, choice_done}
 use Rattle.translation.proofs.Forms.{at_e, sound_of, numbered_e}
-use Rattle.translation.proofs.Parts.{ready_e, part_e, part_plain, end_e, end_plain, some_e, first, second, refused, refused_e, same_e}
+use Rattle.translation.proofs.Parts.{ready_e, part_e, part_plain, end_e, end_plain, some_e, first, second, refused_e, same_e}
 use Rattle.translation.proofs.translator.Translator.+expressions.Goals as goal
 
 pub plain_value-emit-requires : goal.plain_value-emit-requires
