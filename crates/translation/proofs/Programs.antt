@@ -42,8 +42,7 @@ module _ {t u : Translator} (root : ℕ) (none : visible t.scope ≡ []) (empty 
   pub program_done : {d : Writer} {n : ℕ} {w : List Word} → node_c (tree_c (nodes t) root) ≡ n → TranslatedC (tree_c (nodes t) root) t u (Ok tt) → Added u.code d (one Halt n) (suc (next u)) → w ≡ text d → ProgramOf (tree_c (nodes t) root) (Ok w)
   program_done {n = n} j q A e =
       let c = tree_c (nodes t) root in
-      let q' = part_c root refl none (ap length empty) q in
-      (
+      let q' = part_c root refl none (ap length empty) q in (
         sym q'.answer,
         e ∙ A.words ∙ ap (λ (ws : List Word). ws ++ one Halt n) (q'.wrote.words ∙ ap (λ (ws : List Word). ws ++ code_c c [] 0) empty) ∙ ap (λ (k : ℕ). code_c c [] 0 ++ one Halt k) (sym j),
       )

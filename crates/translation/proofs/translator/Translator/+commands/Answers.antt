@@ -113,12 +113,11 @@ conditional-reserve-past-requires t c =
 pub conditional-command-requires : goal.conditional-command-requires
 conditional-command-requires t c =
     let k = at_c c.node-node.ensures c.requires.kind c.requires.ready in
-    let p = c.in_ok-plain_value.ensures in
-    (
+    let p = c.in_ok-plain_value.ensures in (
       omega (arith, k.1.1.0),
       ready_c c.args.self.now p.is.on c.requires.ready.here k.1.1
-      (omega (arith, c.requires.ready.room, ap size_c k.0, end_plain p, c.reserve-past.ensures.added.end))
-      (omega (arith, c.requires.ready.names, ap size_c k.0, ap (λ s. length s.entries) p.is.same)),
+          (omega (arith, c.requires.ready.room, ap size_c k.0, end_plain p, c.reserve-past.ensures.added.end))
+          (omega (arith, c.requires.ready.names, ap size_c k.0, ap (λ s. length s.entries) p.is.same)),
     )
 
 pub conditional-returns-in_err-command : goal.conditional-returns-in_err-command
@@ -141,12 +140,11 @@ conditional-command-requires-2 t c =
     let k = at_c c.node-node.ensures c.requires.kind c.requires.ready in
     let p = c.in_ok-plain_value.ensures in
     let q = c.in_ok-command.ensures in
-    let b = ap (λ ns. size_c (tree_c ns c.node-node.result.b)) p.is.on in
-    (
+    let b = ap (λ ns. size_c (tree_c ns c.node-node.result.b)) p.is.on in (
       omega (arith, k.1.2.0),
       ready_c c.args.self.now (q.is.on ∙ p.is.on) c.requires.ready.here k.1.2
-      (omega (arith, c.requires.ready.room, ap size_c k.0, end_plain p, c.reserve-past.ensures.added.end, end_c q, b, c.reserve-end.ensures.added.end, c.aim.ensures.end))
-      (omega (arith, c.requires.ready.names, ap size_c k.0, ap (λ s. length s.entries) (q.is.same ∙ p.is.same))),
+          (omega (arith, c.requires.ready.room, ap size_c k.0, end_plain p, c.reserve-past.ensures.added.end, end_c q, b, c.reserve-end.ensures.added.end, c.aim.ensures.end))
+          (omega (arith, c.requires.ready.names, ap size_c k.0, ap (λ s. length s.entries) (q.is.same ∙ p.is.same))),
     )
 
 pub conditional-returns-in_err-command-2 : goal.conditional-returns-in_err-command-2
@@ -183,12 +181,11 @@ repetition-reserve-past-requires t c =
 pub repetition-command-requires : goal.repetition-command-requires
 repetition-command-requires t c =
     let k = at_c c.node-node.ensures c.requires.kind c.requires.ready in
-    let p = c.in_ok-plain_value.ensures in
-    (
+    let p = c.in_ok-plain_value.ensures in (
       omega (arith, k.1.1.0),
       ready_c c.args.self.now p.is.on c.requires.ready.here k.1.1
-      (omega (arith, c.requires.ready.room, ap size_c k.0, end_plain p, c.reserve-past.ensures.added.end))
-      (omega (arith, c.requires.ready.names, ap size_c k.0, ap (λ s. length s.entries) p.is.same)),
+          (omega (arith, c.requires.ready.room, ap size_c k.0, end_plain p, c.reserve-past.ensures.added.end))
+          (omega (arith, c.requires.ready.names, ap size_c k.0, ap (λ s. length s.entries) p.is.same)),
     )
 
 pub repetition-returns-in_err-command : goal.repetition-returns-in_err-command
@@ -218,12 +215,11 @@ block-emit-requires t c =
 
 pub block-declaration-requires : goal.block-declaration-requires
 block-declaration-requires t c =
-    let k = at_c c.node-node.ensures c.requires.kind c.requires.ready in
-    (
+    let k = at_c c.node-node.ensures c.requires.kind c.requires.ready in (
       omega (arith, k.1.0.0),
       ready_d c.args.self.now refl c.requires.ready.here k.1.0
-      (omega (arith, c.requires.ready.room, ap size_c k.0, c.emit.ensures.end))
-      (omega (arith, c.requires.ready.names, ap size_c k.0)),
+          (omega (arith, c.requires.ready.room, ap size_c k.0, c.emit.ensures.end))
+          (omega (arith, c.requires.ready.names, ap size_c k.0)),
     )
 
 pub block-returns-in_err-declaration : goal.block-returns-in_err-declaration
@@ -237,12 +233,11 @@ block-returns-in_err-declaration t c =
 pub block-command-requires : goal.block-command-requires
 block-command-requires t c =
     let k = at_c c.node-node.ensures c.requires.kind c.requires.ready in
-    let p = c.in_ok-declaration.ensures in
-    (
+    let p = c.in_ok-declaration.ensures in (
       omega (arith, k.1.1.0),
       ready_c c.args.self.now p.on c.requires.ready.here k.1.1
-      (omega (arith, c.requires.ready.room, ap size_c k.0, c.emit.ensures.end, end_d p))
-      (omega (arith, c.requires.ready.names, ap size_c k.0, p.declared.1)),
+          (omega (arith, c.requires.ready.room, ap size_c k.0, c.emit.ensures.end, end_d p))
+          (omega (arith, c.requires.ready.names, ap size_c k.0, p.declared.1)),
     )
 
 pub block-returns-in_err-command : goal.block-returns-in_err-command
@@ -286,8 +281,8 @@ routine-returns t c =
     let k = at_routine c.args.self.now c.node-node.ensures c.requires.ready.here c.requires.ready.sort c.requires.kind in
     routine_done k (ap (λ i. i + 2) c.here-start.ensures) c.emit.ensures c.reserve-past.ensures c.in_ok-body.ensures c.emit-2.ensures c.here.ensures c.aim.ensures c.bind.ensures
 
-pub body-overflow_cast-node : goal.body-overflow_cast-node
-body-overflow_cast-node t c =
+pub body-overflow_cast-parameter : goal.body-overflow_cast-parameter
+body-overflow_cast-parameter t c =
     let h : c.node-node.result.c < 256 = parameter c.args.self.now c.node-node.ensures c.requires.ready.here c.requires.kind in
     search rules
 
@@ -298,12 +293,11 @@ body-bind-requires t c =
 
 pub body-command-requires : goal.body-command-requires
 body-command-requires t c =
-    let k = at_d c.args.self.now c.node-node.ensures (encloses_procedure c.in-Procedure.is c.requires.kind) c.requires.ready.here c.requires.ready.sort in
-    (
+    let k = at_d c.args.self.now c.node-node.ensures (encloses_procedure c.in-Procedure.is c.requires.kind) c.requires.ready.here c.requires.ready.sort in (
       omega (arith, k.1.0),
       ready_c c.args.self.now refl c.requires.ready.here k.1
-      (omega (arith, c.requires.ready.room, ap size_d k.0))
-      (omega (arith, c.requires.ready.names, ap size_d k.0, c.bind.ensures.more)),
+          (omega (arith, c.requires.ready.room, ap size_d k.0))
+          (omega (arith, c.requires.ready.names, ap size_d k.0, c.bind.ensures.more)),
     )
 
 pub body-returns-in-Procedure : goal.body-returns-in-Procedure
