@@ -1,5 +1,3 @@
-mod Sampled
-mod Filled
 mod Granting
 mod Performing
 mod Running

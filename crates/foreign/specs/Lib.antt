@@ -1,4 +1,2 @@
-pub mod Crossing
-pub mod Laws
 pub mod Answers
 pub mod Calls

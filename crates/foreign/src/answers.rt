@@ -38,10 +38,10 @@ pub struct Outcome {
     pub filled: usize,
 }
 
-impl Checked {
-    pub(crate) fn of<T: Drop>(res: Result<T, Refusal>) -> Checked
-        ensures { result ≡ checked_of res }
-    {
+impl<T: Drop> From<Result<T, Refusal>> for Checked {
+    ghost from_gives = { λ res checked. checked ≡ checked_of res };
+
+    fn from(res: Result<T, Refusal>) -> Checked {
         match res {
             Ok(_) => Checked {
                 refusal: 0,
@@ -55,10 +55,10 @@ impl Checked {
     }
 }
 
-impl Written {
-    pub(crate) fn of(res: Result<usize, Refusal>) -> Written
-        ensures { result ≡ written_of res }
-    {
+impl From<Result<usize, Refusal>> for Written {
+    ghost from_gives = { λ res written. written ≡ written_of res };
+
+    fn from(res: Result<usize, Refusal>) -> Written {
         match res {
             Ok(length) => Written {
                 refusal: 0,
@@ -74,10 +74,11 @@ impl Written {
     }
 }
 
-impl Outcome {
-    pub(crate) fn of(res: Result<Report, Refusal>, left: usize, filled: usize) -> Outcome
-        ensures { result ≡ outcome_of res left filled }
-    {
+// What is left and filled is not known here.
+impl From<Result<Report, Refusal>> for Outcome {
+    ghost from_gives = { λ res outcome. outcome ≡ outcome_of res 0 0 };
+
+    fn from(res: Result<Report, Refusal>) -> Outcome {
         match res {
             Ok(report) => Outcome {
                 refusal: 0,
@@ -86,8 +87,8 @@ impl Outcome {
                 code: report.code(),
                 node: report.node(),
                 steps: report.steps,
-                left,
-                filled,
+                left: 0,
+                filled: 0,
             },
             Err(refusal) => Outcome {
                 refusal: refusal.cause.number(),
@@ -96,8 +97,8 @@ impl Outcome {
                 code: 0,
                 node: refusal.node,
                 steps: 0,
-                left,
-                filled,
+                left: 0,
+                filled: 0,
             },
         }
     }

@@ -2,7 +2,7 @@
 //
 // Pinned by the contracts of `calls`, for every input: which refusal and which node a check, an opening or a sheet answers, and
 // every byte of the memory after a sheet was written; of a run the whole outcome (refusal, end, node, code, steps, samples left,
-// what is filled) and every byte or datum of the memory, by the steps of the table's code, and by the law of takes, so by what
+// what is filled) and every byte or record of the memory, by the steps of the table's code, and by the law of takes, so by what
 // the tree means. How the fuel is cut into runs shows nowhere.
 //
 // Not pinned, and owed by a caller outside of Rattle: that pointers and lengths are good, and that what is lent for writing
@@ -11,6 +11,4 @@
 
 pub mod answers;
 pub mod calls;
-pub mod data;
 mod perform;
-pub mod samples;

@@ -17,21 +17,18 @@ const RUN_FUEL: u32 = 1000000;
 
 const TAKE_FUEL: u32 = 1000000000;
 
-// Grants the fuel in runs. A run is refused only when the take has ended, and then no fuel moves it.
+// Grants the fuel in runs, and what is over in a last one. A run is refused only when the take has ended, and then no fuel
+// moves it.
 fn grant_all<F: Feed, S: Strip>(sequencer: &mut Sequencer, fuel: u32, feed: &mut F, strip: &mut S)
     requires program { program_verdict (model sequencer.old) ≡ Ok tt }
     requires enough { (model sequencer.old).granted + fuel ≤ 1000000000 }
     ensures granted { Granted (rules S.Strip.price) fuel (model sequencer.old) (model sequencer.new) (between F.Feed S.Strip feed.old strip.old) (between F.Feed S.Strip feed.new strip.new) }
     ensures kept { S.Strip.keeps strip.old strip.new }
 {
-    let mut left = fuel;
-    while left > 0 {
-        let grant = left.min(RUN_FUEL);
-        match sequencer.run(grant, feed, strip) {
-            Ok(_) => left -= grant,
-            Err(_) => return,
-        }
+    for _run in 0..fuel / RUN_FUEL {
+        let _ = sequencer.run(RUN_FUEL, feed, strip);
     }
+    let _ = sequencer.run(fuel % RUN_FUEL, feed, strip);
 }
 
 // Loads a table and carries out a take of it.
@@ -45,15 +42,9 @@ pub(crate) fn perform<F: Feed, S: Strip>(
     ensures kept { S.Strip.keeps strip.old strip.new }
 {
     let mut sequencer = Sequencer::new();
-    match sequencer.load(table) {
-        Ok(()) => {}
-        Err(refusal) => return Err(refusal),
-    }
+    sequencer.load(table)?;
     if fuel > TAKE_FUEL {
-        return Err(Refusal {
-            cause: Cause::Fuel,
-            node: 0,
-        });
+        return Err(Cause::Fuel.into());
     }
     grant_all(&mut sequencer, fuel, feed, strip);
     sequencer.report()

@@ -1,8 +1,10 @@
 pub mod ByKind
 pub mod Trees
+pub mod Kinded
 pub mod Fielded
 pub mod Verdicts
 pub mod Upward
+pub mod Tallying
 pub mod Filling
 pub mod Shape
 pub mod Counting

@@ -1,6 +1,5 @@
 -- The first refusal of a walk upward, and what it means that there is none.
-use Rattle.std.proofs.Common.{◌≡◌, ℕ, zero, suc, ◌+◌, ◌<◌, ◌≤◌, Ok, Err, sym, refl, ap, ◌∙◌, subst, ⊎_elim, add-one, arith}
-use Rattle.std.specs.Result.{result_and}
+use Rattle.std.proofs.Common.{◌≡◌, ℕ, zero, suc, ◌+◌, ◌<◌, ◌≤◌, Ok, Err, sym, refl, subst, ⊎_elim, arith}
 use Rattle.std.proofs.lemmas.Bool.{cases_eq}
 use Rattle.vocabulary.specs.declared.refusal.Refusal.{Refusal}
 use Rattle.vocabulary.specs.Refusals.{Verdict}
@@ -8,20 +7,14 @@ use Rattle.language.specs.Verdicts.{upward}
 use Rattle.language.proofs.Verdicts.{both_accept, accept_both}
 
 module _ (v : ℕ → Verdict) where
-  one_more : (j m k : ℕ) → j ≡ m + 1 → upward v j k ≡ result_and (v k) (upward v m (k + 1))
+  -- the first refusal, where all before it passed
+  pub stopped : (m k p : ℕ) {x : Refusal} → k ≤ p → p < k + m → ((n : ℕ) → k ≤ n → n < p → v n ≡ Ok tt) → v p ≡ Err x → upward v m k ≡ Err x
   unfolding upward
-  one_more j m k e = ap (λ (i : ℕ). upward v i k) (e ∙ add-one m)
-
-  -- the steps of a loop over count numbers from k on, of which m are left after k
-  pub passed : (j m k : ℕ) {r : Verdict} → j ≡ m + 1 → v k ≡ Ok tt → upward v j k ≡ r → upward v m (k + 1) ≡ r
-  passed j m k e o h = sym (one_more j m k e ∙ ap (λ (w : Verdict). result_and w (upward v m (k + 1))) o) ∙ h
-
-  pub refused : (j m k : ℕ) {r : Verdict} {x : Refusal} → j ≡ m + 1 → v k ≡ Err x → upward v j k ≡ r → Err x ≡ r
-  refused j m k e o h = sym (one_more j m k e ∙ ap (λ (w : Verdict). result_and w (upward v m (k + 1))) o) ∙ h
-
-  pub done : (j k : ℕ) {r : Verdict} → j ≡ 0 → upward v j k ≡ r → Ok tt ≡ r
-  unfolding upward
-  done j k e h = sym (ap (λ (i : ℕ). upward v i k) e) ∙ h
+  stopped zero k p l u before e = absurd (omega arith)
+  stopped (suc m) k p {x} l u before e =
+      ⊎_elim (λ (q : k ≡ p). let w : v k ≡ Err x = subst (λ (i : ℕ). v i ≡ Err x) (sym q) e in rw w)
+      (λ (q : k ≡ p → ⊥). rw (before k (omega arith) (omega arith)) (stopped m (k + 1) p (omega arith) (omega arith) (λ n a b. before n (omega arith) b) e))
+      (cases_eq k p)
 
   -- no refusal: none at any number
   pub all_passed : (m k n : ℕ) → upward v m k ≡ Ok tt → k ≤ n → n < k + m → v n ≡ Ok tt

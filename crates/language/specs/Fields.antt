@@ -1,11 +1,14 @@
 -- The kinds of nodes, and what each field of each kind holds.
-use Rattle.std.specs.Prelude.{ℕ, Bool, true, false, cond, ◌&&◌, List, [], ◌∷◌, ◌++◌, Some, None, Option, ◌==◌, nat_le}
+use Rattle.std.specs.Prelude.{ℕ, Bool, true, false, cond, ◌&&◌, List, [], ◌∷◌, Some, None, Option, ◌==◌, nat_le}
+use Rattle.std.specs.List.{flat_map, list_all}
 use Rattle.vocabulary.specs.declared.node.Node.{Node}
 use Rattle.language.specs.declared.kind.Sort.{Sort}
 use Rattle.language.specs.declared.kind.Sort.TheVariants.{Command, Declaration, Expression}
 use Rattle.language.specs.declared.kind.Rule.{Rule}
 use Rattle.language.specs.declared.kind.Rule.TheVariants.{Unused, Name, Truth, Operator, Half, Child}
+use Rattle.language.specs.declared.kind.Field.{Field}
 use Rattle.language.specs.declared.kind.Fields.{Fields}
+pub use Rattle.language.specs.declared.kind.ChildField.{ChildField}
 
 abbrev pub within : ℕ → ℕ → ℕ → Bool
 within low high k = nat_le low k && nat_le k high
@@ -54,19 +57,26 @@ admits Operator v = within 1 6 v
 admits Half v = true
 admits (Child s) v = true
 
+-- the fields a, b and c of a node, each with its rule
+abbrev pub field : Rule → ℕ → Field
+field r v = record { rule = r; value = v }
+
+abbrev pub rest_in : Fields → Node → List Field
+rest_in r d = field r.a d.a ∷ field r.b d.b ∷ field r.c d.c ∷ []
+
+-- all four, the tag first
+abbrev pub fields_in : Fields → Node → List Field
+fields_in r d = field r.tag d.tag ∷ rest_in r d
+
 abbrev pub admits_all : Option Fields → Node → Bool
 admits_all None d = false
-admits_all (Some r) d = admits r.tag d.tag && admits r.a d.a && admits r.b d.b && admits r.c d.c
+admits_all (Some r) d = list_all (λ f. admits f.rule f.value) (fields_in r d)
 
 -- the kind is known, and each field keeps its rule
 unfoldable pub formed : Node → Bool
 formed d = admits_all (fields_of d.kind) d
 
--- a child: the sort that is wanted, and the number of the node
-pub record ChildField : Type 0 where
-  pub wanted : Sort
-  pub number : ℕ
-
+-- a child: the sort that is wanted, and the number of the node; only a field with such a rule holds one
 abbrev pub child_in : Rule → ℕ → List ChildField
 child_in Unused v = []
 child_in Name v = []
@@ -77,7 +87,7 @@ child_in (Child s) v = record { wanted = s; number = v } ∷ []
 
 abbrev pub children_by : Option Fields → Node → List ChildField
 children_by None d = []
-children_by (Some r) d = child_in r.a d.a ++ child_in r.b d.b ++ child_in r.c d.c
+children_by (Some r) d = flat_map (λ f. child_in f.rule f.value) (rest_in r d)
 
 -- the children of a node, a before b before c
 unfoldable pub children : Node → List ChildField

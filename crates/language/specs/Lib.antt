@@ -1,5 +1,6 @@
 pub mod Tree
 pub mod Fields
+pub mod Kinds
 pub mod Table
 pub mod Reading
 pub mod Sound

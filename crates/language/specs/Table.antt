@@ -1,5 +1,6 @@
 -- A table of bytes as a list of nodes, and the rules of a table that do not speak of names.
-use Rattle.std.specs.Prelude.{ℕ, zero, suc, ◌+◌, ◌-◌, ◌*◌, ◌/◌, ◌%◌, Bool, true, cond, ◌&&◌, List, [], ◌∷◌, ◌++◌, length, ◌==◌, nat_le, nat_lt, slice_index, slice_index_or}
+use Rattle.std.specs.Prelude.{ℕ, zero, suc, ◌+◌, ◌-◌, ◌*◌, ◌/◌, ◌%◌, Bool, cond, ◌&&◌, List, [], ◌∷◌, ◌++◌, length, ◌==◌, nat_le, nat_lt, slice_index, slice_index_or}
+use Rattle.std.specs.List.{list_all}
 use Rattle.vocabulary.specs.declared.node.Node.{Node}
 use Rattle.language.specs.Fields.{ChildField, children, is_of}
 
@@ -33,13 +34,11 @@ at nodes n = slice_index_or nodes n nowhere
 
 -- every child has a number below n
 abbrev pub lower : ℕ → List ChildField → Bool
-lower n [] = true
-lower n (c ∷ cs) = nat_lt c.number n && lower n cs
+lower n cs = list_all (λ c. nat_lt c.number n) cs
 
 -- every child is of the sort that is wanted
 abbrev pub fitting : List Node → List ChildField → Bool
-fitting nodes [] = true
-fitting nodes (c ∷ cs) = is_of c.wanted (at nodes c.number).kind && fitting nodes cs
+fitting nodes cs = list_all (λ c. is_of c.wanted (at nodes c.number).kind) cs
 
 -- how often a number stands among children
 abbrev pub hit : ℕ → ℕ → ℕ

@@ -1,5 +1,5 @@
 -- Which fault of a table is answered first.
-use Rattle.std.specs.Prelude.{ℕ, zero, suc, ◌+◌, List, [], length, Ok, ◌==◌}
+use Rattle.std.specs.Prelude.{ℕ, zero, suc, ◌+◌, ◌&&◌, List, [], length, Ok, ◌==◌, nat_le, nat_lt}
 use Rattle.std.specs.Result.{result_and}
 use Rattle.vocabulary.specs.declared.node.Node.{Node}
 use Rattle.vocabulary.specs.declared.refusal.Cause.TheVariants.{TableLength, FieldRule, ChildNotLower, ChildSort, NotOneParent, RootNotCommand}
@@ -26,12 +26,20 @@ unfoldable pub upward : (ℕ → Verdict) → ℕ → ℕ → Verdict
 upward verdict zero n = Ok tt
 upward verdict (suc count) n = result_and (verdict n) (upward verdict count (n + 1))
 
+-- whether the last node is a command
+abbrev pub root_verdict : List Node → Verdict
+root_verdict nodes = unless (is_of Command (at nodes (root_of nodes)).kind) RootNotCommand (root_of nodes)
+
 -- the shape of a tree: each node by itself, then one parent for each node but the last, then a command at the root
 abbrev pub shape_verdict : List Node → Verdict
 shape_verdict nodes =
     result_and (upward (node_verdict nodes) (length nodes) 0)
     (result_and (upward (parent_verdict nodes) (root_of nodes) 0)
-    (unless (is_of Command (at nodes (root_of nodes)).kind) RootNotCommand (root_of nodes)))
+    (root_verdict nodes))
+
+-- any number of nodes: 1 to 512 of them, then their shape
+abbrev pub tree_verdict : List Node → Verdict
+tree_verdict nodes = result_and (unless (nat_lt 0 (length nodes) && nat_le (length nodes) 512) TableLength 0) (shape_verdict nodes)
 
 -- nodes: their shape, then their names
 abbrev pub nodes_verdict : List Node → Verdict

@@ -2,6 +2,7 @@
 #![tactic(auto)]
 
 pub mod check;
+pub mod form;
 pub mod kind;
 pub mod name;
 pub mod read;

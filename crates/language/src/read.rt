@@ -1,8 +1,11 @@
 // A table's bytes become nodes here, at the edge; nothing inside reads a byte.
-ghost use Rattle.std.specs.Prelude.{◌≡◌, ◌+◌, ◌*◌, ◌/◌, ◌<◌, ◌≤◌, ◌++◌, length, drop};
-ghost use Rattle.language.specs.Table.{fits, field, node_at, nodes_in, nodes_of};
+ghost use Rattle.std.specs.Prelude.{◌≡◌, true, false, length, IfOk, IfErr};
+ghost use Rattle.vocabulary.specs.Refusals.{refusal};
+ghost use Rattle.language.specs.Table.{fits, node_at, nodes_of};
 
 use vocabulary::node::Node;
+use vocabulary::refusal::{Cause, Refusal};
+use vocabulary::table::Table;
 
 // Whether a table can have this length: in eights, 1 to 512 nodes.
 pub fn fits(size: usize) -> bool
@@ -11,37 +14,32 @@ pub fn fits(size: usize) -> bool
     size > 0 && size % 8 == 0 && size <= 4096
 }
 
-// A 16-bit field, low byte first.
-fn field_at(table: &[u8], k: usize) -> u16
-    requires { k + 1 < length table.now }
-    ensures { result ≡ field table.now k }
+// The node of 8 bytes; a 16-bit field has its low byte first.
+fn read_node(bytes: [u8; 8]) -> Node
+    ensures { result ≡ node_at bytes 0 }
 {
-    u16::from(table[k]) + u16::from(table[k + 1]) * 256
-}
-
-// The node whose 8 bytes begin at `k`.
-fn node_at(table: &[u8], k: usize) -> Node
-    requires { k + 7 < length table.now }
-    ensures { result ≡ node_at table.now k }
-{
+    let [kind, tag, a, a_high, b, b_high, c, c_high] = bytes;
     Node {
-        kind: table[k],
-        tag: table[k + 1],
-        a: field_at(table, k + 2),
-        b: field_at(table, k + 4),
-        c: field_at(table, k + 6),
+        kind,
+        tag,
+        a: u16::from_le_bytes([a, a_high]),
+        b: u16::from_le_bytes([b, b_high]),
+        c: u16::from_le_bytes([c, c_high]),
     }
 }
 
-// Fills the first places with the nodes of a table, and says how many they are.
-pub fn read_nodes(table: &[u8], nodes: &mut [Node]) -> usize
-    requires { length table.now / 8 ≤ length nodes.old }
-    ensures count { result ≡ length table.now / 8 }
-    ensures filled { nodes.new ≡ nodes_of table.now ++ drop (length table.now / 8) nodes.old }
+// The nodes of a table, unless its length is against the rule.
+pub fn read_nodes(table: &[u8]) -> Result<Table<Node, 512>, Refusal>
+    ensures read { IfOk result (λ nodes. (fits (length table.now) ≡ true) × (nodes ≡ nodes_of table.now)) }
+    ensures refused { IfErr result (λ fault. (fits (length table.now) ≡ false) × (fault ≡ refusal Cause.TableLength 0)) }
 {
-    let count = table.len() / 8;
-    for n in 0..count {
-        nodes[n] = node_at(table, 8 * n);
+    if !fits(table.len()) {
+        return Err(Cause::TableLength.into());
     }
-    count
+    let mut nodes = Table::new(Node::default());
+    let (chunks, _) = table.as_chunks::<8>();
+    for bytes in chunks {
+        nodes.push(read_node(*bytes));
+    }
+    Ok(nodes)
 }

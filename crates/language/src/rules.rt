@@ -1,7 +1,9 @@
 ghost use Rattle.std.specs.Prelude.{◌≡◌};
-ghost use Rattle.language.specs.Fields.{is_of, row as row_of, fields_of, admits};
+ghost use Rattle.language.specs.Fields.{is_of, fields_of, fields_in, admits, children};
 
-use crate::kind::{Fields, Rule, Sort};
+use crate::kind::{ChildField, Field, Fields, Kind, Rule, Sort};
+use vocabulary::node::Node;
+use vocabulary::table::Table;
 
 // Whether a kind is of a sort.
 pub fn is_of(sort: Sort, kind: u8) -> bool
@@ -14,45 +16,70 @@ pub fn is_of(sort: Sort, kind: u8) -> bool
     }
 }
 
-fn row(tag: Rule, a: Rule, b: Rule, c: Rule) -> Option<Fields>
-    ensures { result ≡ row_of tag a b c }
-{
-    Some(Fields { tag, a, b, c })
-}
-
 // The rules of a kind, if the kind is known.
 pub fn fields_of(kind: u8) -> Option<Fields>
     ensures { result ≡ fields_of kind }
 {
-    let none = Rule::Unused;
-    let name = Rule::Name;
-    let half = Rule::Half;
-    let command = Rule::Child(Sort::Command);
-    let declaration = Rule::Child(Sort::Declaration);
-    let expression = Rule::Child(Sort::Expression);
-    match kind {
-        // assign, output, if, while, block, sequence, procedure call
-        1 => row(none, expression, expression, none),
-        2 => row(none, expression, none, none),
-        3 => row(none, expression, command, command),
-        4 => row(none, expression, command, none),
-        5 => row(none, declaration, command, none),
-        6 => row(none, command, command, none),
-        7 => row(name, expression, none, none),
-        // constant and variable, procedure, function, pair
-        10 | 11 => row(name, expression, none, none),
-        12 => row(name, command, none, name),
-        13 => row(name, expression, none, name),
-        14 => row(none, declaration, declaration, none),
-        // number, truth, read, name, operation, function call, choice
-        20 => row(none, none, half, half),
-        21 => row(Rule::Truth, none, none, none),
-        22 => row(none, none, none, none),
-        23 => row(name, none, none, none),
-        24 => row(Rule::Operator, expression, expression, none),
-        25 => row(name, expression, none, none),
-        26 => row(none, expression, expression, expression),
-        _ => None,
+    let Ok(kind) = Kind::try_from(kind) else {
+        return None;
+    };
+    Some(kind.fields())
+}
+
+// The children of a node, a before b before c; none where its kind is unknown.
+pub fn children(node: Node) -> Table<ChildField, 3>
+    ensures { result ≡ children node }
+{
+    let mut children = Table::new(ChildField {
+        wanted: Sort::Expression,
+        number: 0,
+    });
+    if let Ok(kind) = Kind::try_from(node.kind) {
+        let fields = kind.fields().of(node);
+        for field in &fields[1..] {
+            if let Rule::Child(wanted) = field.rule {
+                children.push(ChildField {
+                    wanted,
+                    number: field.value,
+                });
+            }
+        }
+    }
+    children
+}
+
+impl Fields {
+    // The tag and the fields a, b and c of a node, each with its rule.
+    pub fn of(self, node: Node) -> [Field; 4]
+        ensures { result ≡ fields_in self node }
+    {
+        [
+            Field {
+                rule: self.tag,
+                value: u16::from(node.tag),
+            },
+            Field {
+                rule: self.a,
+                value: node.a,
+            },
+            Field {
+                rule: self.b,
+                value: node.b,
+            },
+            Field {
+                rule: self.c,
+                value: node.c,
+            },
+        ]
+    }
+}
+
+impl Field {
+    // Whether it may hold its value, but for what is asked of a child.
+    pub fn keeps_rule(self) -> bool
+        ensures { result ≡ admits self.rule self.value }
+    {
+        self.rule.admits(self.value)
     }
 }
 

@@ -1,94 +1,85 @@
 -- What the machine of lists does in the instructions that change the links of the tables, said of the lists that the tables
 -- show before and after; and a step from its instruction.
-use Rattle.std.proofs.Common.{◌≡◌, ℕ, suc, ◌<◌, ◌≤◌, Bool, true, false, ltb, List, [], ◌∷◌, length, take, Some, sym, refl, ap, ◌∙◌, subst, arith}
+use Rattle.std.proofs.Common.{◌≡◌, ℕ, suc, ◌<◌, ◌≤◌, Bool, true, false, ltb, List, ◌∷◌, length, reverse, drop, Some, Option, Ok, Err, Result, sym, refl, ap, ◌∙◌, arith}
 use Rattle.std.proofs.lemmas.Bool.{lt-ltb, le-ltb}
-use Rattle.vocabulary.specs.Tables.{found, Pushed}
+use Rattle.vocabulary.specs.declared.table.TableFull.{TableFull}
+use Rattle.vocabulary.specs.Appending.{Pushed}
+use Rattle.vocabulary.specs.Tables.{found}
 use Rattle.vocabulary.specs.declared.value.Plain.{Plain}
 use Rattle.vocabulary.specs.declared.value.Value.{Value}
+use Rattle.vocabulary.specs.declared.code.Word.{Word}
+use Rattle.vocabulary.specs.World.{Rules}
 use Rattle.machine.specs.declared.tables.Bound.{Bound}
 use Rattle.machine.specs.declared.tables.Bound.TheVariants.{Holds, Body}
 use Rattle.machine.specs.declared.tables.Entry.{Entry}
 use Rattle.machine.specs.declared.tables.Frame.{Frame}
-use Rattle.vocabulary.specs.World.{Rules}
-use Rattle.machine.specs.Instructions.{bind_as, enter, leave, ret, call, goto}
-use Rattle.machine.specs.Machine.{perform, obey, step}
-use Rattle.machine.specs.State.{Dump, Core, core, Turn, Ports, noted, joined}
+use Rattle.machine.specs.declared.tables.Stop.{Stop}
+use Rattle.machine.specs.declared.tables.Stop.TheVariants.{Ended, Stuck}
+use Rattle.machine.specs.Instructions.{guard, bind_as, dumped, under, goto, invoke}
+use Rattle.machine.specs.Machine.{perform, step}
+use Rattle.machine.specs.State.{Core, core, Turn, Ports, noted, joined}
 use Rattle.machine.specs.State.Moved.{moved}
 use Rattle.machine.specs.State.State.{running}
 use Rattle.machine.specs.State.Dump.{frame}
-use Rattle.machine.specs.Seen.{after, stands, status_of}
-use Rattle.machine.specs.declared.tables.Said.{Said}
-use Rattle.machine.specs.declared.tables.Said.TheVariants.{Go, Ended, Stuck}
-use Rattle.machine.specs.declared.tables.Status.{Status}
-use Rattle.vocabulary.specs.declared.code.Word.{Word}
 use Rattle.machine.specs.State.Turn.{goes, stuck}
-use Rattle.machine.specs.Links.{chain, chains, nested, Found}
-use Rattle.machine.proofs.Linking.{Grown, Back, chains-length, chains_more, chains_none, nested-enter, nested_env}
+use Rattle.machine.specs.Seen.{after, stands, stopped}
+use Rattle.machine.specs.Links.{reach, chain, chains, nested}
+use Rattle.machine.proofs.Linking.{Grown, chains-length, chains_more, nested-enter, nested_env}
 
--- a frame is wanted where the dump has none
-pub undumped : (f : List Dump → Core → Turn) (c : Core) (t : List Entry) (fs : List Frame) → f [] c ≡ stuck → fs ≡ [] → stuck ≡ f (chains t fs) c
-undumped f c t fs n h = sym (ap (λ ds. f ds c) (chains_none t fs h) ∙ n)
-
--- a frame is taken back
-pub leave-goes : (k : Core) (cells : List Plain) (t u : List Entry) (fs gs : List Frame) (f : Frame) → cells ≡ take f.other k.cells → Back t u fs gs f →
-    goes (core k.position k.values (chain u f.env) (length u) (chains u gs) cells) ≡ leave (chains t fs) k
-leave-goes k cells t u fs gs f p b = rw (b.shown, p)
-
-pub ret-goes : (k : Core) (t u : List Entry) (fs gs : List Frame) (f : Frame) → Back t u fs gs f →
-    goes (core f.other k.values (chain u f.env) (length u) (chains u gs) k.cells) ≡ ret (chains t fs) k
-ret-goes k t u fs gs f b = rw b.shown
-
--- a binding or a frame is added; the position and the cells stay
-module _ (at : ℕ) (cells : List Plain) where
-  pub bind_goes : (vals : List Value) (t u : List Entry) (fs : List Frame) (c : Entry) (k : ℕ) → length t < 512 → Grown t u fs c k →
-      goes (core at vals (chain u k) (length u) (chains u fs) cells) ≡ bind_as 512 c.what (core at vals (chain t c.below) (length t) (chains t fs) cells)
-  bind_goes vals t u fs c k h g =
-      let l : ltb (length t) 512 ≡ true = lt-ltb (length t) 512 h in
-      rw (g.environment, g.counts, g.dumps, l)
-
-  pub enter-goes : (vals : List Value) (t : List Entry) (fs gs : List Frame) (f : Frame) → length fs < 512 → gs ≡ f ∷ fs → f.bound ≡ length t → f.other ≡ length cells →
-      goes (core at vals (chain t f.env) (length t) (chains t gs) cells) ≡ enter 512 (core at vals (chain t f.env) (length t) (chains t fs) cells)
-  enter-goes vals t fs gs f h p b o =
-      let l : ltb (length (chains t fs)) 512 ≡ true = rw chains-length (lt-ltb (length fs) 512 h) in
-      let s : chains t gs ≡ frame (chain t f.env) (length t) (length cells) ∷ chains t fs = chains_more t fs gs f p ∙ rw (b, o) in
-      rw (s, l)
-
-  pub enter_full : (vals : List Value) (m : List Bound) (n : ℕ) (t : List Entry) (fs : List Frame) → 512 ≤ length fs → stuck ≡ enter 512 (core at vals m n (chains t fs) cells)
-  enter_full vals m n t fs h =
-      let l : ltb (length (chains t fs)) 512 ≡ false = rw chains-length (le-ltb (length fs) 512 h) in
-      rw l
-
-  pub call-goes : (vs ws : List Value) (v : Value) (t : List Entry) (fs gs : List Frame) (f : Frame) (d body : ℕ) (x : Entry) → x.what ≡ Body body → vs ≡ v ∷ ws → length fs < 512 → gs ≡ f ∷ fs → f.bound ≡ length t → f.other ≡ at → Found t f.env d (Some x) →
-      bind_as 512 (Holds v) (core body ws (chain t x.below) (length t) (chains t gs) cells) ≡ call 512 d vs (core at vs (chain t f.env) (length t) (chains t fs) cells)
-  call-goes vs ws v t fs gs f d body x q e h p b o r =
-      let l : ltb (length (chains t fs)) 512 ≡ true = rw chains-length (lt-ltb (length fs) 512 h) in
-      let s : chains t gs ≡ frame (chain t f.env) (length t) at ∷ chains t fs = chains_more t fs gs f p ∙ rw (b, o) in
-      rw (e, r.0, q, r.1, l, s)
-
-  pub call_full : (vs ws : List Value) (v : Value) (t : List Entry) (fs : List Frame) (env d body : ℕ) (x : Entry) → x.what ≡ Body body → vs ≡ v ∷ ws → 512 ≤ length fs → Found t env d (Some x) →
-      stuck ≡ call 512 d vs (core at vs (chain t env) (length t) (chains t fs) cells)
-  call_full vs ws v t fs env d body x q e h r =
-      let l : ltb (length (chains t fs)) 512 ≡ false = rw chains-length (le-ltb (length fs) 512 h) in
-      rw (e, r.0, q, l)
+-- a binding is added; the rest stays
+pub bind_goes : (at : ℕ) (vals : List Value) (es ds : List Entry) (fs : List Frame) (cells : List Plain) (c : Entry) (e : ℕ) → length es < 512 → Grown es ds fs c e →
+    goes (core at vals (chain (reverse ds) e) (length ds) (chains (reverse ds) fs) cells) ≡ bind_as 512 c.what (core at vals (chain (reverse es) (reach c.below)) (length es) (chains (reverse es) fs) cells)
+bind_goes at vals es ds fs cells c e h g =
+    let l : ltb (length es) 512 ≡ true = lt-ltb (length es) 512 h in
+    rw (g.environment, g.counts, g.dumps, l)
 
 -- a frame is put on the dump, or there is no room for it
-pub entered : (cap n : ℕ) (fs gs : List Frame) (f : Frame) (r : Bool) → Pushed cap fs gs f r → f.bound ≡ n → nested n f.env fs ≡ true → nested n f.env gs ≡ true
-entered cap n fs gs f true p b l =
-    let k = nested_env n f.env fs l in
-    let q : nested n f.env (f ∷ fs) ≡ true = nested-enter n f.env f fs (omega arith) k (subst (λ m. nested m f.env fs ≡ true) (sym b) l) in
-    subst (λ xs. nested n f.env xs ≡ true) (sym p.1) q
-entered cap n fs gs f false p b l = subst (λ xs. nested n f.env xs ≡ true) (sym p.1) l
+pub entered : (n q : ℕ) (e : Option ℕ) (fs gs : List Frame) (f : Frame) (r : Result (Unit {0}) TableFull) → Pushed 512 fs gs f r → f ≡ record { env = e; bound = n; other = q } → nested n (reach e) fs ≡ true → nested n (reach e) gs ≡ true
+entered n q e fs gs f (Ok u) p z l =
+    let s : gs ≡ record { env = e; bound = n; other = q } ∷ fs = rw (← z) p.1 in
+    rw s (nested-enter n (reach e) (record { env = e; bound = n; other = q }) fs (omega arith) (nested_env n (reach e) fs l) l)
+entered n q e fs gs f (Err x) p z l = rw p.1 l
 
-pub called : (n d : ℕ) (fs gs : List Frame) (f : Frame) → gs ≡ f ∷ fs → f.bound ≡ n → d ≤ n → nested n f.env fs ≡ true → nested n d gs ≡ true
-called n d fs gs f p b k l =
-    let q : nested n d (f ∷ fs) ≡ true = nested-enter n d f fs (omega arith) k (subst (λ m. nested m f.env fs ≡ true) (sym b) l) in
-    subst (λ xs. nested n d xs ≡ true) (sym p) q
+pub dump_goes : (at : ℕ) (vals : List Value) (n q : ℕ) (e : Option ℕ) (t : List Entry) (fs gs : List Frame) (f : Frame) (cells : List Plain) → length fs < 512 → gs ≡ f ∷ fs → f ≡ record { env = e; bound = n; other = q } →
+    goes (core at vals (chain t (reach e)) n (chains t gs) cells) ≡ guard (ltb (length (chains t fs)) 512) (goes (dumped q (core at vals (chain t (reach e)) n (chains t fs) cells)))
+dump_goes at vals n q e t fs gs f cells h p z =
+    let l : ltb (length (chains t fs)) 512 ≡ true = rw chains-length (lt-ltb (length fs) 512 h) in
+    let s : chains t gs ≡ frame (chain t (reach e)) n q ∷ chains t fs = chains_more t fs gs (record { env = e; bound = n; other = q }) (p ∙ ap (λ x. x ∷ fs) z) in
+    rw (s, l)
 
--- a word is fetched, and its instruction carried out at the next position
-pub step-goes : (R : Rules) (code : List Word) (x : Word) (k : ℕ) (said : Said) (r : Status) (c d : Core) (w u : Ports) → Some x ≡ found code c.position → k ≡ suc c.position → moved (after said d) u ≡ perform R x.instruction (goto k c) w → r ≡ status_of said x.node →
-    stands r d u ≡ step R code (running (joined c w))
-step-goes R code x k said r c d w u f e m q =
-    let a : stands r d u ≡ stands (status_of said x.node) d u = ap (λ z. stands z d u) q in
-    let b : stands (status_of said x.node) d u ≡ noted x.node (moved (after said d) u) = elim said as (λ z. stands (status_of z x.node) d u ≡ noted x.node (moved (after z d) u)) [ Go ↦ refl | Ended e ↦ refl | Stuck ↦ refl ] in
-    let g : perform R x.instruction (goto k c) w ≡ perform R x.instruction (goto (suc c.position) c) w = ap (λ n. perform R x.instruction (goto n c) w) e in
-    a ∙ b ∙ ap (noted x.node) (m ∙ g) ∙ ap (λ o. obey R o (joined c w)) f
+pub dump_full : (t : List Entry) (fs : List Frame) (k : Turn) → 512 ≤ length fs → stuck ≡ guard (ltb (length (chains t fs)) 512) k
+dump_full t fs k h =
+    let l : ltb (length (chains t fs)) 512 ≡ false = rw chains-length (le-ltb (length fs) 512 h) in
+    rw l
+
+-- a body is entered, once the frame is on the dump
+guarded : (b : Bool) (k : Core) (t u : Turn) → goes k ≡ guard b t → guard b u ≡ u
+guarded true k t u h = refl
+guarded false k t u h = cc
+
+dumped_is : (b : Bool) (k j : Core) → goes k ≡ guard b (goes j) → k ≡ j
+dumped_is true k j h = cc
+dumped_is false k j h = cc
+
+pub call_goes : (d body : ℕ) (v : Value) (m : List Bound) (j k : Core) → found k.environment d ≡ Some (Body body) → drop (suc d) k.environment ≡ m → goes j ≡ guard (ltb (length k.dump) 512) (goes (dumped k.position k)) →
+    bind_as 512 (Holds v) (goto body (under m j)) ≡ invoke 512 v (found k.environment d) d k
+call_goes d body v m j k f r g =
+    let e : j ≡ dumped k.position k = dumped_is _ _ _ g in
+    rw (e, f, ← r) (sym (guarded (ltb (length k.dump) 512) j (goes (dumped k.position k)) _ g))
+
+no_room : (b : Bool) (s : Stop) (j k : Core) (t : Turn) → after (Err s) j ≡ guard b (goes k) → after (Err s) j ≡ guard b t
+no_room true (Ended e) j k t g = cc
+no_room true Stuck j k t g = cc
+no_room false s j k t g = g
+
+pub call_full : (d body : ℕ) (v : Value) (s : Stop) (j k : Core) → found k.environment d ≡ Some (Body body) → after (Err s) j ≡ guard (ltb (length k.dump) 512) (goes (dumped k.position k)) →
+    after (Err s) j ≡ invoke 512 v (found k.environment d) d k
+call_full d body v s j k f g = rw f (no_room (ltb (length k.dump) 512) s j _ _ g)
+
+stopped_is : (s : Stop) (node : ℕ) (d : Core) (u : Ports) → stands (stopped s node) d u ≡ noted node (moved (after (Err s) d) u)
+stopped_is (Ended e) node d u = refl
+stopped_is Stuck node d u = refl
+
+pub step_stops : (R : Rules) (code : List Word) (x : Word) (k : ℕ) (s : Stop) (c d : Core) (w u : Ports) → found code c.position ≡ Some x → k ≡ suc c.position → moved (after (Err s) d) u ≡ perform R x.instruction (goto k c) w →
+    stands (stopped s x.node) d u ≡ step R code (running (joined c w))
+step_stops R code x k s c d w u f e m = rw f (stopped_is s x.node d u ∙ ap (noted x.node) (m ∙ ap (λ n. perform R x.instruction (goto n c) w) e))

@@ -1,30 +1,39 @@
 -- The machine of lists that the tables show, and how it stands after an instruction, a step or a run.
-use Rattle.std.specs.Prelude.{ℕ, length}
-use Rattle.vocabulary.specs.Tables.{stack, front}
+use Rattle.std.specs.Prelude.{◌≡◌, ℕ, [], ◌∷◌, length, reverse, Ok, Err, Result}
 use Rattle.vocabulary.specs.World.{world}
 use Rattle.ports.specs.declared.feed.Feed.{Ghosts as FeedMembers}
 use Rattle.ports.specs.declared.strip.Strip.{Ghosts as StripMembers}
 use Rattle.machine.specs.declared.state.Machine.{Machine}
-use Rattle.machine.specs.declared.tables.Said.{Said}
-use Rattle.machine.specs.declared.tables.Said.TheVariants.{Go, Ended, Stuck}
+use Rattle.machine.specs.declared.tables.Stop.{Stop}
+use Rattle.machine.specs.declared.tables.Stop.TheVariants.{Ended, Stuck}
 use Rattle.machine.specs.declared.tables.Status.{Status}
 use Rattle.machine.specs.declared.tables.Status.TheVariants.{Running, Halted, Broken}
-use Rattle.machine.specs.Links.{chain, chains}
+use Rattle.machine.specs.Links.{chain, chains, reach}
 use Rattle.machine.specs.State.{Core, core, Turn, Ports, ports, State, joined}
+use Rattle.machine.specs.State.Dump.{frame}
 use Rattle.machine.specs.State.State.{running, halted, broken}
 use Rattle.machine.specs.State.Turn.{goes, ends, stuck}
 
 -- the machine's own part, read off its tables
 abbrev pub seen : Machine → Core
 seen m =
-    let entries = stack m.entries m.bound in
-    core m.position (stack m.values m.height) (chain entries m.env) (length entries) (chains entries (stack m.frames m.depth)) (front m.cells m.used)
+    let entries = reverse m.bindings.entries in
+    core m.position (reverse m.values) (chain entries (reach m.bindings.env)) (length m.bindings.entries) (chains entries (reverse m.frames)) m.cells
+
+-- what an instruction says: the machine goes on, or it stops
+abbrev pub Said : Type 0
+Said = Result (Unit {0}) Stop
 
 -- what an instruction came to, by what it says and the machine after it
 abbrev pub after : Said → Core → Turn
-after Go k = goes k
-after (Ended e) k = ends e k.cells
-after Stuck k = stuck
+after (Ok _) k = goes k
+after (Err (Ended e)) k = ends e k.cells
+after (Err Stuck) k = stuck
+
+-- environment and bindings in use taken off the dump, with the number that came with them
+abbrev pub TakenBack : Core → Core → Result ℕ Stop → Type 0
+TakenBack k l (Ok q) = (k.dump ≡ frame l.environment l.bindings q ∷ l.dump) × (l ≡ core k.position k.values l.environment l.bindings l.dump k.cells)
+TakenBack k l (Err s) = (k.dump ≡ []) × (s ≡ Stuck)
 
 -- the state, by how the machine stands
 abbrev pub stands : Status → Core → Ports → State
@@ -40,8 +49,11 @@ between f s feed strip = ports (f.waiting feed) (s.held strip) (s.space strip)
 abbrev pub state_of : {F S : Type 0} → FeedMembers F → StripMembers S → Status → Machine → F → S → State
 state_of f s status m feed strip = stands status (seen m) (between f s feed strip)
 
--- how the machine stands after an instruction of a node
+-- how the machine stands after a stop at a node, and after an instruction of a node
+abbrev pub stopped : Stop → ℕ → Status
+stopped (Ended e) node = Halted e node
+stopped Stuck node = Broken
+
 abbrev pub status_of : Said → ℕ → Status
-status_of Go node = Running
-status_of (Ended e) node = Halted e node
-status_of Stuck node = Broken
+status_of (Ok _) node = Running
+status_of (Err s) node = stopped s node

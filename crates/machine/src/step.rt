@@ -2,25 +2,26 @@ ghost use Rattle.std.specs.Prelude.{◌≡◌};
 ghost use Rattle.vocabulary.specs.World.{rules};
 ghost use Rattle.machine.specs.declared.tables.Status.TheVariants.{Running};
 ghost use Rattle.machine.specs.Machine.{perform, step};
-ghost use Rattle.machine.specs.Seen.{seen, after, status_of, between, state_of};
+ghost use Rattle.machine.specs.Seen.{seen, after, stopped, between, state_of};
 ghost use Rattle.machine.specs.State.Moved.{moved};
 
 use crate::state::Machine;
-use crate::tables::{Bound, Said, Status};
+use crate::tables::{Bound, Status, Stop};
 use ports::feed::Feed;
 use ports::strip::Strip;
 use vocabulary::code::{Instruction, Word};
 use vocabulary::end::End;
-use vocabulary::table::fetch;
 use vocabulary::value::{Plain, Value};
 
-fn status(said: Said, node: u16) -> Status
-    ensures { result ≡ status_of said node }
-{
-    match said {
-        Said::Go => Status::Running,
-        Said::Ended(end) => Status::Halted(end, node),
-        Said::Stuck => Status::Broken,
+impl Stop {
+    // How the machine stands after a stop at a node.
+    pub(crate) fn at(self, node: u16) -> Status
+        ensures { result ≡ stopped self node }
+    {
+        match self {
+            Stop::Ended(end) => Status::Halted(end, node),
+            Stop::Stuck => Status::Broken,
+        }
     }
 }
 
@@ -31,7 +32,7 @@ impl Machine {
         instruction: Instruction,
         feed: &mut F,
         strip: &mut S,
-    ) -> Said
+    ) -> Result<(), Stop>
         ensures comes { moved (after result (seen self.new)) (between F.Feed S.Strip feed.new strip.new) ≡ perform (rules S.Strip.price) instruction (seen self.old) (between F.Feed S.Strip feed.old strip.old) }
         ensures kept { S.Strip.keeps strip.old strip.new }
     {
@@ -54,7 +55,7 @@ impl Machine {
             Instruction::Bind => self.bind(),
             Instruction::New => self.new_cell(),
             Instruction::Clos(body) => self.bind_as(Bound::Body(body)),
-            Instruction::Halt => Said::Ended(End::Halt),
+            Instruction::Halt => Err(End::Halt.into()),
         }
     }
 
@@ -63,11 +64,13 @@ impl Machine {
         ensures stepped { state_of F.Feed S.Strip result self.new feed.new strip.new ≡ step (rules S.Strip.price) code.now (state_of F.Feed S.Strip Running self.old feed.old strip.old) }
         ensures kept { S.Strip.keeps strip.old strip.new }
     {
-        let Some(word) = fetch(code, self.position) else {
+        let Some(word) = code.get(self.position) else {
             return Status::Broken;
         };
         self.position += 1;
-        let said = self.perform(word.instruction, feed, strip);
-        status(said, word.node)
+        match self.perform(word.instruction, feed, strip) {
+            Ok(()) => Status::Running,
+            Err(stop) => stop.at(word.node),
+        }
     }
 }

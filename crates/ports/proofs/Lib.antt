@@ -1,7 +1,6 @@
-pub mod Traced
 pub mod Ramped
 pub mod Keeping
-pub mod Filled
+pub mod Lending
 pub mod Spelled
 pub mod Parsed
 pub mod Lined

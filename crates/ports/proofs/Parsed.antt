@@ -6,7 +6,11 @@ use Rattle.std.proofs.lemmas.Fmt.{decimal_is_IsNumeral, decimal_by_steps}
 use Rattle.std.proofs.lemmas.Bool.{ne_eqb}
 use Rattle.vocabulary.specs.declared.value.Plain.{Plain}
 use Rattle.vocabulary.specs.declared.value.Plain.TheVariants.{Number, Truth}
-use Rattle.ports.specs.Lines.{word_of, line_of, text_of, read_word, values_after, values_in, Whole}
+use Rattle.ports.specs.Lines.{word_of, line_of, text_of, read_word, values_after, values_in}
+
+-- a text that is just the lines of the values that it says
+abbrev pub Whole : List ℕ → Type 0
+Whole text = text_of (values_in text) ≡ text
 
 -- what has begun, and not ended, at the end of a text
 abbrev pub rest : List ℕ → List ℕ → List ℕ

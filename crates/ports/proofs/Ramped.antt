@@ -1,21 +1,21 @@
 -- A ramp without its first reading is the ramp that starts one step on; what that gives of its items and of whether they fit.
-use Rattle.std.proofs.Common.{◌≡◌, ℕ, zero, suc, ◌-◌, ◌^◌, ◌<◌, ◌≤◌, true, false, ◌&&◌, ◌∷◌, ℤ, pos, ◌+ℤ◌, ◌*ℤ◌, sym, refl, ap, ◌∙◌, arith, w32, SFits, to_z, of_z}
-use lib.IntN.{zero-*ℤ, suc_ℤ-*ℤ, +ℤ_idr, +ℤ_assoc, +ℤ_comm}
+use Rattle.std.proofs.Common.{◌≡◌, ℕ, zero, suc, ◌+◌, ◌-◌, ◌*◌, ◌^◌, ◌<◌, ◌≤◌, true, false, ◌&&◌, ◌∷◌, ℤ, pos, negsuc, ◌+ℤ◌, ◌*ℤ◌, sym, refl, ap, ◌∙◌, arith, w32, w64, SFits, Ok, Err, Result, ◌⊎◌, ⊎_elim, inl, inr, ltb-false, le-ltb}
+use Rattle.std.specs.Result.{OkIff, is_ok}
+use Rattle.std.proofs.lemmas.Nat.{mul-le}
+use lib.IntN.{neg_ℤ, pos-*ℤ-pos, pos-*ℤ-negsuc, zero-*ℤ, suc_ℤ-*ℤ, +ℤ_idr, +ℤ_assoc, +ℤ_comm}
+use borrow.Author.Differences.{up, down}
 use lib.Signed.{mag}
-use Rattle.std.proofs.lemmas.Int.{to_z-of_z}
+use Rattle.std.proofs.lemmas.Int.{ints}
 use Rattle.std.proofs.lemmas.Bool.{lt-ltb, ltb-true, and_parts}
 use Rattle.vocabulary.specs.declared.item.Item.TheVariants.{Reading}
 use Rattle.vocabulary.specs.Numbers.{within32}
 use Rattle.ports.specs.Ramps.{rung, rungs, rungs_fit, ramp_items, ramp_fits}
 
-pub within : (z : ℤ) → SFits w32 z → within32 z ≡ true
+within : (z : ℤ) → SFits w32 z → within32 z ≡ true
 within z f = lt-ltb (mag z) (2 ^ 31) f.sfits
 
-pub from_within : (z : ℤ) → within32 z ≡ true → SFits w32 z
+from_within : (z : ℤ) → within32 z ≡ true → SFits w32 z
 from_within z e = record { sfits = ltb-true (mag z) (2 ^ 31) e }
-
-pub not_within : (z : ℤ) → (SFits w32 z → ⊥) → within32 z ≡ false
-not_within z away = elim (within32 z) as (λ b. within32 z ≡ b → within32 z ≡ false) [ true ↦ λ e. absurd (away (from_within z e)) | false ↦ λ e. e ] refl
 
 rung_first : (z s : ℤ) → rung z s 0 ≡ z
 rung_first z s = ap (λ x. z +ℤ x) (zero-*ℤ s) ∙ +ℤ_idr z
@@ -37,44 +37,93 @@ items_first z s n = ap (λ x. Reading x ∷ rungs z s 1 n) (rung_first z s) ∙ 
 fits_first : (z s : ℤ) (n : ℕ) → ramp_fits z s (suc n) ≡ within32 z && ramp_fits (z +ℤ s) s n
 fits_first z s n = ap (λ x. within32 x && rungs_fit z s 1 n) (rung_first z s) ∙ ap (λ b. within32 z && b) (rungs_fit_up z s 0 n)
 
-pub items_more : (z s : ℤ) (n : ℕ) → (n ≡ 0 → ⊥) → ramp_items z s n ≡ Reading z ∷ ramp_items (z +ℤ s) s (n - 1)
-items_more z s zero some = absurd (some refl)
-items_more z s (suc n) some =
-    let m : suc n - 1 ≡ n = omega arith in
-    items_first z s n ∙ sym (ap (λ k. Reading z ∷ ramp_items (z +ℤ s) s k) m)
+pub items_more : (z s : ℤ) (n m : ℕ) → n ≡ m + 1 → ramp_items z s n ≡ Reading z ∷ ramp_items (z +ℤ s) s m
+items_more z s n m e = let k : n ≡ suc m = omega arith in ap (ramp_items z s) k ∙ items_first z s m
 
-pub fits-few : (z s : ℤ) (n : ℕ) → n ≤ 1 → SFits w32 z → ramp_fits z s n ≡ true
-fits-few z s zero h f = refl
-fits-few z s (suc zero) h f = fits_first z s 0 ∙ ap (λ b. b && true) (within z f)
-fits-few z s (suc (suc n)) h f = absurd (omega arith)
+-- after the last reading it does not matter where a ramp would go on
+pub items_end : (z s y : ℤ) (n m : ℕ) → n ≡ m + 1 → m ≡ 0 → ramp_items z s n ≡ Reading z ∷ ramp_items y s m
+items_end z s y n m e h = items_more z s n m e ∙ ap (λ k. Reading z ∷ ramp_items (z +ℤ s) s k) h ∙ sym (ap (λ k. Reading z ∷ ramp_items y s k) h)
 
-pub fits_on : (z s : ℤ) (n : ℕ) → 1 < n → SFits w32 z → ramp_fits z s n ≡ ramp_fits (z +ℤ s) s (n - 1)
-fits_on z s zero h f = absurd (omega arith)
-fits_on z s (suc n) h f =
-    let m : suc n - 1 ≡ n = omega arith in
-    fits_first z s n ∙ ap (λ b. b && ramp_fits (z +ℤ s) s n) (within z f) ∙ sym (ap (ramp_fits (z +ℤ s) s) m)
+pub fits_end : (y s : ℤ) (m : ℕ) → m ≡ 0 → ramp_fits y s m ≡ true
+fits_end y s m h = ap (ramp_fits y s) h
 
-pub fits_off : (z s : ℤ) (n : ℕ) → 1 < n → SFits w32 z → (SFits w32 (z +ℤ s) → ⊥) → ramp_fits z s n ≡ false
-fits_off z s zero h f away = absurd (omega arith)
-fits_off z s (suc zero) h f away = absurd (omega arith)
-fits_off z s (suc (suc n)) h f away =
-    fits_first z s (suc n)
-    ∙ ap (λ b. b && ramp_fits (z +ℤ s) s (suc n)) (within z f)
-    ∙ fits_first (z +ℤ s) s n
-    ∙ ap (λ b. b && ramp_fits ((z +ℤ s) +ℤ s) s n) (not_within (z +ℤ s) away)
+-- a number within 32 bits, and one beyond, as a difference of two naturals
+inside : (z : ℤ) → mag z < 2 ^ 31 → (up z < down z + 2 ^ 31) × (down z ≤ up z + 2 ^ 31)
+inside (pos n) h = (omega arith, omega arith)
+inside (negsuc n) h = (omega arith, omega arith)
+
+outside : (z : ℤ) → 2 ^ 31 ≤ mag z → (down z + 2 ^ 31 ≤ up z) ⊎ (up z + 2 ^ 31 < down z)
+outside (pos n) h = inl (omega arith)
+outside (negsuc n) h = inr (omega arith)
+
+above : (z : ℤ) → down z + 2 ^ 31 ≤ up z → 2 ^ 31 ≤ mag z
+above (pos n) h = omega arith
+above (negsuc n) h = omega arith
+
+below : (z : ℤ) → up z + 2 ^ 31 < down z → 2 ^ 31 ≤ mag z
+below (pos n) h = omega arith
+below (negsuc n) h = omega arith
+
+-- one step on from a reading within, a reading beyond is beyond on the side of the step: so is each later one
+away : (z s : ℤ) (n : ℕ) → mag z < 2 ^ 31 → 2 ^ 31 ≤ mag (z +ℤ s) → 2 ^ 31 ≤ mag ((z +ℤ s) +ℤ (pos n *ℤ s))
+away z (pos b) n h k =
+    let i = inside z h in
+    let p : pos n *ℤ pos b ≡ pos (n * b) = pos-*ℤ-pos n b in
+    rw p (⊎_elim (λ o. above ((z +ℤ pos b) +ℤ pos (n * b)) (omega (arith, ints))) (λ o. absurd (omega (arith, ints))) (outside (z +ℤ pos b) k))
+away z (negsuc b) n h k =
+    let i = inside z h in
+    let p : pos n *ℤ negsuc b ≡ neg_ℤ (pos (n * suc b)) = pos-*ℤ-negsuc n b in
+    rw p (⊎_elim (λ o. absurd (omega (arith, ints))) (λ o. below ((z +ℤ negsuc b) +ℤ neg_ℤ (pos (n * suc b))) (omega (arith, ints))) (outside (z +ℤ negsuc b) k))
+
+beyond : (z : ℤ) → within32 z ≡ false → 2 ^ 31 ≤ mag z
+beyond z e = ltb-false (mag z) (2 ^ 31) e
+
+not_within : (z : ℤ) → 2 ^ 31 ≤ mag z → within32 z ≡ false
+not_within z h = le-ltb (mag z) (2 ^ 31) h
+
+-- all readings are within 32 bits where the first and the last are
+first_and_last : (z s : ℤ) (n : ℕ) → SFits w32 z → ramp_fits z s (suc n) ≡ within32 (rung z s n)
+first_and_last z s zero f = fits_first z s 0 ∙ ap (λ b. b && true) (within z f) ∙ sym (ap within32 (rung_first z s) ∙ within z f)
+first_and_last z s (suc n) f =
+    fits_first z s (suc n) ∙ ap (λ b. b && ramp_fits (z +ℤ s) s (suc n)) (within z f)
+    ∙ elim (within32 (z +ℤ s)) as (λ b. within32 (z +ℤ s) ≡ b → ramp_fits (z +ℤ s) s (suc n) ≡ within32 (rung (z +ℤ s) s n)) [
+      | true ↦ λ e. first_and_last (z +ℤ s) s n (from_within (z +ℤ s) e)
+      | false ↦ λ e.
+          fits_first (z +ℤ s) s n ∙ ap (λ b. b && ramp_fits ((z +ℤ s) +ℤ s) s n) e
+          ∙ sym (not_within (rung (z +ℤ s) s n) (away z s n f.sfits (beyond (z +ℤ s) e)))
+    ] refl
+    ∙ sym (ap within32 (rung_up z s n))
+
+pub by_last : (z s : ℤ) (n : ℕ) → SFits w32 z → ramp_fits z s n ≡ within32 (rung z s (n - 1))
+by_last z s zero f = sym (ap within32 (rung_first z s) ∙ within z f)
+by_last z s (suc n) f = let m : suc n - 1 ≡ n = omega arith in first_and_last z s n f ∙ sym (ap (λ k. within32 (rung z s k)) m)
 
 -- of more than one, the second fits, and so do all after the first
-pub fits_next : (z s : ℤ) (n : ℕ) → ramp_fits z s n ≡ true → (n ≡ 0 → ⊥) → (n ≡ 1 → ⊥) → SFits w32 (z +ℤ s) × (ramp_fits (z +ℤ s) s (n - 1) ≡ true)
-fits_next z s zero e some more = absurd (some refl)
-fits_next z s (suc zero) e some more = absurd (more refl)
-fits_next z s (suc (suc n)) e some more =
-    let rest : ramp_fits (z +ℤ s) s (suc n) ≡ true = (and_parts (within32 z) (ramp_fits (z +ℤ s) s (suc n)) (sym (fits_first z s (suc n)) ∙ e)).1 in
-    let m : suc (suc n) - 1 ≡ suc n = omega arith in
-    (from_within (z +ℤ s) (and_parts (within32 (z +ℤ s)) (ramp_fits ((z +ℤ s) +ℤ s) s n) (sym (fits_first (z +ℤ s) s n) ∙ rest)).0, ap (ramp_fits (z +ℤ s) s) m ∙ rest)
+pub fits_next : (z s : ℤ) (n m : ℕ) → ramp_fits z s n ≡ true → n ≡ m + 1 → 0 < m → SFits w32 (z +ℤ s) × (ramp_fits (z +ℤ s) s m ≡ true)
+fits_next z s n zero f e h = absurd (omega arith)
+fits_next z s n (suc m) f e h =
+    let k : n ≡ suc (suc m) = omega arith in
+    let rest : ramp_fits (z +ℤ s) s (suc m) ≡ true = (and_parts (within32 z) (ramp_fits (z +ℤ s) s (suc m)) (sym (fits_first z s (suc m)) ∙ sym (ap (ramp_fits z s) k) ∙ f)).1 in
+    (from_within (z +ℤ s) (and_parts (within32 (z +ℤ s)) (ramp_fits ((z +ℤ s) +ℤ s) s m) (sym (fits_first (z +ℤ s) s m) ∙ rest)).0, rest)
 
--- a loop's invariant speaks of bits; this is the same of the numbers
-pub fits_of_bits : (start step at : ℤ) (bits count left : ℕ) → SFits w32 start → SFits w32 step → to_z w32 bits ≡ at → ramp_fits (to_z w32 bits) (to_z w32 (of_z w32 step)) left ≡ ramp_fits (to_z w32 (of_z w32 start)) (to_z w32 (of_z w32 step)) count → ramp_fits at step left ≡ ramp_fits start step count
-fits_of_bits start step at bits count left f g e h = simp (to_z-of_z, e) at h
+-- the last reading of a ramp is far within 64 bits
+inward : (z : ℤ) → up z < down z + 2 ^ 63 → down z ≤ up z + 2 ^ 63 → SFits w64 z
+inward (pos n) h k = record { sfits = omega arith }
+inward (negsuc n) h k = record { sfits = omega arith }
 
-pub bits_of_fits : (start step at : ℤ) (count left : ℕ) → SFits w32 start → SFits w32 step → SFits w32 at → ramp_fits at step left ≡ ramp_fits start step count → ramp_fits (to_z w32 (of_z w32 at)) (to_z w32 (of_z w32 step)) left ≡ ramp_fits (to_z w32 (of_z w32 start)) (to_z w32 (of_z w32 step)) count
-bits_of_fits start step at count left f g a h = simp to_z-of_z h
+pub wide : (z s : ℤ) (n : ℕ) → SFits w32 z → SFits w32 s → n < 2 ^ 16 → SFits w64 (pos n *ℤ s) × SFits w64 (z +ℤ (pos n *ℤ s))
+wide z (pos b) n f g h =
+    let i = inside z f.sfits in
+    let j = g.sfits in
+    let most = mul-le n b (2 ^ 16) (2 ^ 31) (omega arith) (omega arith) in
+    rw (pos-*ℤ-pos n b) (inward (pos (n * b)) (omega (arith, ints)) (omega (arith, ints)), inward (z +ℤ pos (n * b)) (omega (arith, ints)) (omega (arith, ints)))
+wide z (negsuc b) n f g h =
+    let i = inside z f.sfits in
+    let j = g.sfits in
+    let most = mul-le n (suc b) (2 ^ 16) (2 ^ 31) (omega arith) (omega arith) in
+    rw (pos-*ℤ-negsuc n b) (inward (neg_ℤ (pos (n * suc b))) (omega (arith, ints)) (omega (arith, ints)), inward (z +ℤ neg_ℤ (pos (n * suc b))) (omega (arith, ints)) (omega (arith, ints)))
+
+-- what a conversion to 32 bits decides
+pub decided : {T E : Type 0} (r : Result T E) (z : ℤ) (v : T) → OkIff r (SFits w32 z) v → is_ok r ≡ within32 z
+decided (Ok x) z v d = sym (within z d.0)
+decided (Err e) z v d = elim (within32 z) as (λ b. within32 z ≡ b → false ≡ within32 z) [ true ↦ λ i. absurd (d (from_within z i)) | false ↦ λ i. sym i ] refl

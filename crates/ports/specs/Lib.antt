@@ -5,5 +5,6 @@ pub mod Strips
 pub mod Kept
 pub mod Records
 pub mod Lines
+pub mod Lent
 pub mod Laws
 pub mod Copies

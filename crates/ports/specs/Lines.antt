@@ -1,13 +1,10 @@
 -- The lines of values: their text, and the values that a text says.
-use Rattle.std.specs.Prelude.{◌≡◌, ℕ, ◌+◌, ◌-◌, ◌<◌, ◌≤◌, true, false, cond, List, [], ◌∷◌, ◌++◌, length, take, drop, pos, negsuc, codes, ◌==◌}
-use Rattle.std.specs.Borrow.{MutBor}
+use Rattle.std.specs.Prelude.{ℕ, ◌-◌, true, false, cond, List, [], ◌∷◌, ◌++◌, length, pos, negsuc, codes, ◌==◌}
 use Rattle.std.specs.List.{flat_map}
 use Rattle.std.specs.Str.Parse.{digits_value as numeral}
 use Rattle.std.specs.Fmt.{signed_decimal}
 use Rattle.vocabulary.specs.declared.value.Plain.{Plain}
 use Rattle.vocabulary.specs.declared.value.Plain.TheVariants.{Number, Truth}
-use Rattle.ports.specs.declared.strip.Placed.{Placed}
-use Rattle.ports.specs.declared.strip.Placed.TheVariants.{Done, Full}
 
 -- a value in words: decimal digits with no leading zero, '-' before a negative; or true or false
 abbrev pub word_of : Plain → List ℕ
@@ -43,13 +40,3 @@ values_after begun (b ∷ bs) = cond (b == 10) (read_word begun ∷ values_after
 -- the values that a text says
 abbrev pub values_in : List ℕ → List Plain
 values_in text = values_after [] text
-
--- a text that is just the lines of the values that it says
-abbrev pub Whole : List ℕ → Type 0
-Whole text = text_of (values_in text) ≡ text
-
--- the same memory, where a line was added behind the first `used` bytes, or was not for want of room
-abbrev pub Added : MutBor (List ℕ) → MutBor (List ℕ) → ℕ → ℕ → List ℕ → Placed → Type 0
-Added earlier later used filled line Done =
-    (length line ≤ length earlier.now - used) × (filled ≡ used + length line) × (later.ghost_name ≡ earlier.ghost_name) × (later.now ≡ take used earlier.now ++ (line ++ drop filled earlier.now))
-Added earlier later used filled line Full = (length earlier.now - used < length line) × (filled ≡ used) × (later ≡ earlier)

@@ -1,22 +1,18 @@
 // Copies readings from a feed to a strip. It is written once for all feeds and strips, and shows what a user of a strip
 // over its own memory learns of that memory.
 ghost use Rattle.std.specs.Prelude.{◌≡◌, [], length};
+ghost use Rattle.ports.specs.declared.copy.Stop.TheVariants.{Fault as Faulted};
 ghost use Rattle.ports.specs.Copies.{Onto, outcome, copied};
-ghost use Rattle.ports.specs.Lines.{line_length, text_of};
-ghost use Rattle.ports.specs.Records.{one, records_of};
 
 use crate::feed::Feed;
-use crate::records::{OutRecord, RecordStrip};
-use crate::strip::{Placed, Strip};
-use crate::text::TextStrip;
+use crate::lent::{Element, LentStrip};
+use crate::strip::Strip;
 use vocabulary::item::{Fault, Item};
 use vocabulary::value::Plain;
 
-// Why a copy stopped.
-#[derive(Clone, Copy)]
+// Why a copy stopped before it had copied as many readings as were asked for.
+#[derive(Clone, Copy, PartialEq, Eq, Debug)]
 pub enum Stop {
-    // as many readings were copied as were asked for
-    Limit,
     // no item was left
     Empty,
     // this fault came
@@ -25,38 +21,38 @@ pub enum Stop {
     Full(i32),
 }
 
-// Copies at most `limit` readings.
-pub fn copy<F: Feed, S: Strip>(feed: &mut F, strip: &mut S, limit: usize) -> Stop
+impl From<Fault> for Stop {
+    ghost from_gives = { λ fault stop. stop ≡ Faulted fault };
+
+    fn from(fault: Fault) -> Stop {
+        Stop::Fault(fault)
+    }
+}
+
+// Copies at most `limit` readings, and answers what kept it from copying all of them.
+pub fn copy<F: Feed, S: Strip>(feed: &mut F, strip: &mut S, limit: usize) -> Result<(), Stop>
     ensures copied { outcome (F.Feed.waiting feed.new) (S.Strip.held strip.new) (S.Strip.space strip.new) result ≡ copied S.Strip.price limit (F.Feed.waiting feed.old) (S.Strip.held strip.old) (S.Strip.space strip.old) }
     ensures kept { S.Strip.keeps strip.old strip.new }
 {
     for _done in 0..limit {
-        let Some(item) = feed.take() else {
-            return Stop::Empty;
-        };
-        match item {
-            Item::Fault(fault) => return Stop::Fault(fault),
-            Item::Reading(reading) => match strip.put(Plain::Number(reading)) {
-                Placed::Done => {}
-                Placed::Full => return Stop::Full(reading),
-            },
+        match feed.take().ok_or(Stop::Empty)? {
+            Item::Fault(fault) => return Err(fault.into()),
+            Item::Reading(reading) => strip
+                .put(Plain::Number(reading))
+                .map_err(|_| Stop::Full(reading))?,
         }
     }
-    Stop::Limit
+    Ok(())
 }
 
-// Copies into the caller's records.
-pub fn copy_to_records<F: Feed>(feed: &mut F, records: &mut [OutRecord], limit: usize) -> Stop
-    ensures { Onto records_of (copied one limit (F.Feed.waiting feed.old) [] (length records.old)) records.old records.new (F.Feed.waiting feed.new) result }
+// Copies into the caller's memory: as records, or as text.
+pub fn copy_into<F: Feed, T: Element>(
+    feed: &mut F,
+    memory: &mut [T],
+    limit: usize,
+) -> Result<(), Stop>
+    ensures { Onto T.Element.written (copied T.Element.price limit (F.Feed.waiting feed.old) [] (length memory.old)) memory.old memory.new (F.Feed.waiting feed.new) result }
 {
-    let mut strip = RecordStrip::new(records);
-    copy(feed, &mut strip, limit)
-}
-
-// Copies into the caller's bytes, as text.
-pub fn copy_to_text<F: Feed>(feed: &mut F, bytes: &mut [u8], limit: usize) -> Stop
-    ensures { Onto text_of (copied line_length limit (F.Feed.waiting feed.old) [] (length bytes.old)) bytes.old bytes.new (F.Feed.waiting feed.new) result }
-{
-    let mut strip = TextStrip::new(bytes);
+    let mut strip = LentStrip::new(memory);
     copy(feed, &mut strip, limit)
 }

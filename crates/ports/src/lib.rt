@@ -4,6 +4,7 @@
 
 pub mod copy;
 pub mod feed;
+pub mod lent;
 pub mod ramp;
 pub mod records;
 pub mod strip;

@@ -21,16 +21,10 @@ pub struct Ramp {
 fn fits(start: i32, step: i32, count: u16) -> bool
     ensures { result ≡ ramp_fits start step count }
 {
-    let mut at = start;
-    let mut left = count;
-    while left > 1 {
-        match at.checked_add(step) {
-            Some(next) => at = next,
-            None => return false,
-        }
-        left -= 1;
-    }
-    true
+    // All readings lie between the first, which is within 32 bits, and the last.
+    let steps = count.saturating_sub(1);
+    let last = i64::from(start) + i64::from(steps) * i64::from(step);
+    i32::try_from(last).is_ok()
 }
 
 impl Ramp {
@@ -45,10 +39,7 @@ impl Ramp {
                 left: count,
             })
         } else {
-            Err(Refusal {
-                cause: Cause::RampRange,
-                node: 0,
-            })
+            Err(Cause::RampRange.into())
         }
     }
 }
@@ -59,17 +50,13 @@ impl Feed for Ramp {
     ghost lawful = { λ ramp. ramp_lawful ramp.at ramp.step ramp.left };
 
     fn take(&mut self) -> Option<Item> {
-        if self.left == 0 {
-            return None;
-        }
+        let left = self.left.checked_sub(1)?;
         let reading = self.at;
         // The step after the last reading may leave 32 bits: it is not taken.
-        if self.left == 1 {
-            self.left = 0;
-            return Some(Item::Reading(reading));
+        if left > 0 {
+            self.at = reading + self.step;
         }
-        self.at = reading + self.step;
-        self.left -= 1;
+        self.left = left;
         Some(Item::Reading(reading))
     }
 }

@@ -1,78 +1,51 @@
-ghost use Rattle.std.specs.Prelude.{◌≡◌, ◌-◌, ◌≤◌, [], length, take};
+ghost use Rattle.std.specs.Prelude.{◌≡◌, refl};
 ghost use Rattle.ports.specs.Records.{record_of, records_of, values_of, one};
-ghost use Rattle.ports.specs.Kept.{Kept};
-ghost use Rattle.ports.specs.Laws.{one_costs, kept-stays, kept_goes};
+ghost use Rattle.ports.specs.Laws.{one_costs};
 
-use crate::strip::{Placed, Strip};
+use crate::lent::{Element, LentStrip, fill};
+use crate::strip::StripFull;
 use vocabulary::value::Plain;
 
-// A value as a record: sort 0 is a number, sort 1 a truth, which is 0 or 1.
+// A value as a record: sort 0 is a number, sort 1 a truth, which is 0 or 1. The sort stays a number, since C lays the
+// record out so.
+#[repr(C)]
 #[derive(Clone, Copy)]
 pub struct OutRecord {
     pub sort: u8,
     pub number: i32,
 }
 
-// A strip that fills records of the caller's memory; the first `used` are filled.
-#[derive(Drop)]
-pub struct RecordStrip<'a> {
-    records: &'a mut [OutRecord],
-    used: usize,
-    ghost within: { used ≤ length records.now },
-    ghost written: { records_of (values_of (take used records.now)) ≡ take used records.now },
-}
+impl From<Plain> for OutRecord {
+    ghost from_gives = { λ value r. r ≡ record_of value };
 
-fn record_of(value: Plain) -> OutRecord
-    ensures { result ≡ record_of value }
-{
-    match value {
-        Plain::Number(number) => OutRecord { sort: 0, number },
-        Plain::Truth(true) => OutRecord { sort: 1, number: 1 },
-        Plain::Truth(false) => OutRecord { sort: 1, number: 0 },
+    fn from(value: Plain) -> OutRecord {
+        match value {
+            Plain::Number(number) => OutRecord { sort: 0, number },
+            Plain::Truth(truth) => OutRecord {
+                sort: 1,
+                number: truth.into(),
+            },
+        }
     }
 }
 
-impl<'a> RecordStrip<'a> {
-    pub fn new(records: &'a mut [OutRecord]) -> RecordStrip<'a>
-        ensures held { values_of (take result.used result.records.now) ≡ [] }
-        ensures space { length result.records.now - result.used ≡ length records.old }
-        ensures memory { result.records.now ≡ records.old }
-        ensures same { result.records.ghost_name ≡ records.entry.ghost_name }
-    {
-        RecordStrip { records, used: 0 }
-    }
+impl Element for OutRecord {
+    ghost written = { records_of };
 
-    // How many records are filled.
-    pub fn used(&self) -> usize
-        ensures { result ≡ length (records_of (values_of (take self.now.used self.now.records.now))) }
-    {
-        self.used
-    }
-}
+    ghost said = { values_of };
 
-impl<'a> Strip for RecordStrip<'a> {
-    ghost held = { λ s. values_of (take s.used s.records.now) };
+    ghost nothing_written = { refl };
 
-    ghost space = { λ s. length s.records.now - s.used };
+    ghost nothing_said = { refl };
 
     ghost price = { one };
 
     ghost costs = { one_costs };
 
-    ghost keeps = { λ s t. Kept s.records t.records (records_of (values_of (take s.used s.records.now))) (records_of (values_of (take t.used t.records.now))) };
-
-    ghost stays = { λ s. kept-stays s.records s.used _ s.within s.written };
-
-    ghost goes = { λ s t u h k. kept_goes s.records t.records u.records _ _ _ h k };
-
-    fn put(&mut self, value: Plain) -> Placed {
-        let used = self.used;
-        if used < self.records.len() {
-            self.records[used] = record_of(value);
-            self.used = used + 1;
-            Placed::Done
-        } else {
-            Placed::Full
-        }
+    fn write(value: Plain, free: &mut [OutRecord]) -> Result<usize, StripFull> {
+        fill(&[value.into()], free)
     }
 }
+
+// A strip that fills records of the caller's memory.
+pub type RecordStrip<'a> = LentStrip<'a, OutRecord>;

@@ -4,12 +4,9 @@ ghost use Rattle.ports.specs.Strips.{Put};
 
 use vocabulary::value::Plain;
 
-// What a put answers.
+// A strip has no room for a value: its price is above the space.
 #[derive(Clone, Copy, PartialEq, Eq, Debug)]
-pub enum Placed {
-    Done,
-    Full,
-}
+pub struct StripFull;
 
 // A strip means the list of the values that it holds, and the space left on it.
 pub trait Strip {
@@ -32,7 +29,7 @@ pub trait Strip {
     ghost goes: { (s t u : Self) → keeps s t → keeps t u → keeps s u };
 
     // Adds the value at the end, where its price is within the space; else nothing changes.
-    fn put(&mut self, value: Plain) -> Placed
+    fn put(&mut self, value: Plain) -> Result<(), StripFull>
         ensures answer { Put (price value) value (held self.old) (space self.old) (held self.new) (space self.new) result }
         ensures kept { keeps self.old self.new };
 }

@@ -1,48 +1,61 @@
-ghost use Rattle.std.specs.Prelude.{◌≡◌, drop};
+ghost use Rattle.std.specs.Prelude.{◌≡◌, length};
 ghost use Rattle.ports.specs.Laws.{items-lawful};
-ghost use Rattle.ports.specs.Traces.{items_of};
+ghost use Rattle.ports.specs.Traces.{item_of, items_of};
 
 use crate::feed::Feed;
 use vocabulary::item::{Fault, Item};
 
-// What was recorded at one moment: a reading where the code is 0, and else the fault of that code.
+// What was recorded at one moment: a reading where the code is 0, and else the fault of that code. The number stays a
+// number, since C lays the record out so.
+#[repr(C)]
 #[derive(Clone, Copy)]
 pub struct Record {
     pub code: u8,
     pub reading: i32,
 }
 
-// A feed over records in the caller's memory; `at` of them have been taken.
+impl From<Record> for Item {
+    ghost from_gives = { λ r item. item ≡ item_of r };
+
+    fn from(record: Record) -> Item {
+        match record.code {
+            0 => Item::Reading(record.reading),
+            code => Item::Fault(Fault { code }),
+        }
+    }
+}
+
+// A feed over records in the caller's memory: those that are left.
 #[derive(Drop)]
 pub struct Trace<'a> {
-    records: &'a [Record],
-    at: usize,
+    left: &'a [Record],
 }
 
 impl<'a> Trace<'a> {
     pub fn new(records: &'a [Record]) -> Trace<'a>
-        ensures { items_of (drop result.at result.records.now) ≡ items_of records.now }
+        ensures { result.left.now ≡ records.now }
     {
-        Trace { records, at: 0 }
+        Trace { left: records }
+    }
+
+    // How many records are left.
+    pub fn left(&self) -> usize
+        ensures { result ≡ length (items_of self.now.left.now) }
+    {
+        self.left.len()
     }
 }
 
 impl<'a> Feed for Trace<'a> {
-    ghost waiting = { λ trace. items_of (drop trace.at trace.records.now) };
+    ghost waiting = { λ trace. items_of trace.left.now };
 
-    ghost lawful = { λ trace. items-lawful (drop trace.at trace.records.now) };
+    ghost lawful = { λ trace. items-lawful trace.left.now };
 
     fn take(&mut self) -> Option<Item> {
-        if self.at < self.records.len() {
-            let record = self.records[self.at];
-            self.at += 1;
-            if record.code == 0 {
-                Some(Item::Reading(record.reading))
-            } else {
-                Some(Item::Fault(Fault { code: record.code }))
-            }
-        } else {
-            None
-        }
+        let [first, left @ ..] = self.left else {
+            return None;
+        };
+        self.left = left;
+        Some((*first).into())
     }
 }

@@ -4,7 +4,7 @@ ghost use Rattle.ports.specs.Records.{one};
 ghost use Rattle.ports_tests.specs.Own.{item_in, item_lawful, value_in, places_in};
 
 use ports::feed::Feed;
-use ports::strip::{Placed, Strip};
+use ports::strip::{Strip, StripFull};
 use vocabulary::item::Item;
 use vocabulary::value::Plain;
 
@@ -19,13 +19,8 @@ impl Feed for Once {
     ghost lawful = { λ once. item_lawful once.reading };
 
     fn take(&mut self) -> Option<Item> {
-        match self.reading {
-            Some(reading) => {
-                self.reading = None;
-                Some(Item::Reading(reading))
-            }
-            None => None,
-        }
+        let reading = self.reading.take()?;
+        Some(Item::Reading(reading))
     }
 }
 
@@ -49,13 +44,11 @@ impl Strip for Slot {
 
     ghost goes = { λ s t u h k. tt };
 
-    fn put(&mut self, value: Plain) -> Placed {
-        match self.value {
-            Some(_) => Placed::Full,
-            None => {
-                self.value = Some(value);
-                Placed::Done
-            }
+    fn put(&mut self, value: Plain) -> Result<(), StripFull> {
+        if self.value.is_some() {
+            return Err(StripFull);
         }
+        self.value = Some(value);
+        Ok(())
     }
 }

@@ -1,21 +1,11 @@
 -- Which tables and sheets become programs.
 use Rattle.std.specs.Prelude.{◌≡◌, ℕ, List, Ok, Err, Result}
 use Rattle.vocabulary.specs.declared.refusal.Refusal.{Refusal}
-use Rattle.vocabulary.specs.declared.node.Node.{Node}
-use Rattle.language.specs.Reading.{tree_of}
-use Rattle.language.specs.Translation.{program}
-use Rattle.language.specs.Verdicts.{nodes_verdict, table_verdict}
-use Rattle.translation.specs.declared.tables.Code.{Code}
-use Rattle.translation.specs.Held.{text}
+use Rattle.language.specs.Verdicts.{table_verdict}
 use Rattle.sheet.specs.Faithful.{program_of}
 use Rattle.sheet.specs.Sheets.{open_verdict, table_part}
 use Rattle.sequencer.specs.declared.program.Program.{Program as Accepted}
 use Rattle.sequencer.specs.Model.{held}
-
--- nodes: the verdict on them, and accepted their translation
-abbrev pub Translates : List Node → Result Code Refusal → Type 0
-Translates nodes (Ok code) = (nodes_verdict nodes ≡ Ok tt) × (text code ≡ program (tree_of nodes))
-Translates nodes (Err e) = nodes_verdict nodes ≡ Err e
 
 -- a table: the verdict on it, and accepted its nodes and their translation
 abbrev pub Accepts : List ℕ → Result Accepted Refusal → Type 0

@@ -1,15 +1,17 @@
 -- What the calls answer, and the sequencer after them.
-use Rattle.std.specs.Prelude.{◌≡◌, ℕ, ◌+◌, Bool, true, false, ◌&&◌, List, is_some, Ok, Err, Result, nat_le}
+use Rattle.std.specs.Prelude.{◌≡◌, ℕ, ◌+◌, Bool, true, false, ◌&&◌, List, is_some, Some, None, Ok, Err, Option, Result, nat_le}
+use Rattle.std.specs.Borrow.{Bor}
 use Rattle.std.specs.Result.{result_and}
 use Rattle.vocabulary.specs.declared.refusal.Cause.TheVariants.{NoProgram, TakeEnded, Fuel}
 use Rattle.vocabulary.specs.declared.refusal.Refusal.{Refusal}
-use Rattle.vocabulary.specs.Refusals.{Verdict, unless}
+use Rattle.vocabulary.specs.Refusals.{Verdict, refusal, unless}
 use Rattle.vocabulary.specs.World.{Rules}
 use Rattle.machine.specs.declared.tables.Status.{Status}
 use Rattle.machine.specs.declared.tables.Status.TheVariants.{Running, Halted, Broken}
 use Rattle.machine.specs.Machine.{iterate, taken}
 use Rattle.machine.specs.Seen.{stands}
 use Rattle.machine.specs.State.{Ports, State}
+use Rattle.sequencer.specs.declared.program.Program.{Program as Accepted}
 use Rattle.sequencer.specs.declared.report.Report.{Report}
 use Rattle.sequencer.specs.declared.state.Sequencer.{Sequencer}
 use Rattle.language.specs.Verdicts.{table_verdict}
@@ -34,6 +36,11 @@ Opened sheet before after r = (r ≡ open_verdict sheet) × Begins (begun (progr
 abbrev pub program_verdict : Model → Verdict
 program_verdict m = unless (is_some m.program) NoProgram 0
 
+-- the program that is there, or the refusal
+abbrev pub Holds : Option Accepted → Result (Bor Accepted) Refusal → Type 0
+Holds o (Ok p) = o ≡ Some p.now
+Holds o (Err e) = (o ≡ None) × (e ≡ refusal NoProgram 0)
+
 -- rewinding: the program stays
 abbrev pub Rewound : Sequencer → Sequencer → Verdict → Type 0
 Rewound before after r = (r ≡ program_verdict (model before)) × Begins (rewound (model before)) before after r
@@ -47,10 +54,13 @@ goes_on Broken = false
 abbrev pub grants : ℕ → ℕ → Bool
 grants granted fuel = nat_le fuel 1000000 && nat_le (granted + fuel) 1000000000
 
+-- a run of a take: one that has ended, then too much fuel
+abbrev pub grant_verdict : Status → ℕ → ℕ → Verdict
+grant_verdict status granted fuel = result_and (unless (goes_on status) TakeEnded 0) (unless (grants granted fuel) Fuel 0)
+
 -- a run: no program, then a take that has ended, then too much fuel
 abbrev pub run_verdict : Model → ℕ → Verdict
-run_verdict m fuel =
-    result_and (program_verdict m) (result_and (unless (goes_on m.status) TakeEnded 0) (unless (grants m.granted fuel) Fuel 0))
+run_verdict m fuel = result_and (program_verdict m) (grant_verdict m.status m.granted fuel)
 
 abbrev pub told : Model → Report
 told m = report_of m.status m.steps

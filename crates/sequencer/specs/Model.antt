@@ -3,16 +3,15 @@ use Rattle.std.specs.Prelude.{ℕ, List, [], Some, None, Option}
 use Rattle.std.specs.Option.{option_map}
 use Rattle.vocabulary.specs.declared.code.Word.{Word}
 use Rattle.vocabulary.specs.declared.node.Node.{Node}
-use Rattle.vocabulary.specs.Tables.{front}
 use Rattle.machine.specs.declared.tables.Status.{Status}
 use Rattle.machine.specs.declared.tables.Status.TheVariants.{Running}
 use Rattle.machine.specs.Machine.{blank}
 use Rattle.machine.specs.Seen.{seen}
 use Rattle.machine.specs.State.{Core}
 use Rattle.sheet.specs.Layout.{Program}
-use Rattle.translation.specs.Held.{text}
 use Rattle.sequencer.specs.declared.program.Program.{Program as Accepted}
 use Rattle.sequencer.specs.declared.state.Sequencer.{Sequencer}
+use Rattle.sequencer.specs.declared.take.Take.{Take}
 
 -- the program, if there is one; how the machine stands, and its tables; the fuel granted to the take, and its steps
 pub record Model : Type 0 where
@@ -24,10 +23,14 @@ pub record Model : Type 0 where
 
 -- the nodes and the code of a program
 abbrev pub held : Accepted → Program
-held p = record { nodes = front p.nodes p.count; code = text p.code }
+held p = record { nodes = p.nodes; code = p.code }
+
+-- a program, if there is one, and a take
+abbrev pub taking : Option Program → Take → Model
+taking p t = record { program = p; status = t.status; core = seen t.machine; granted = t.granted; steps = t.steps }
 
 abbrev pub model : Sequencer → Model
-model s = record { program = option_map held s.program; status = s.status; core = seen s.machine; granted = s.granted; steps = s.steps }
+model s = taking (option_map held s.program) s.take
 
 -- a new sequencer
 abbrev pub fresh : Model

@@ -3,9 +3,8 @@ ghost use Rattle.sheet.specs.Writing.{start_answer, start_memory, finish_answer,
 ghost use Rattle.sequencer.specs.Model.{model};
 
 use crate::state::Sequencer;
-use sheet::archive::write_sheet;
-use sheet::half::{HalfSheet, finish as finish_sheet, start as start_sheet};
-use vocabulary::refusal::{Cause, Refusal};
+use sheet::half::HalfSheet;
+use vocabulary::refusal::Refusal;
 
 impl Sequencer {
     // Writes header and nodes of the program's sheet, and gives the half sheet that finish spends.
@@ -13,13 +12,7 @@ impl Sequencer {
         ensures answer { result ≡ start_answer (model self.now).program memory.old }
         ensures memory { memory.new ≡ start_memory (model self.now).program memory.old }
     {
-        match &self.program {
-            Some(program) => start_sheet(program.nodes(), program.code.text(), memory),
-            None => Err(Refusal {
-                cause: Cause::NoProgram,
-                node: 0,
-            }),
-        }
+        self.program()?.contents().start(memory)
     }
 
     // Writes the code and the full header, and answers the length of the sheet. A refusal hands the half sheet back.
@@ -27,15 +20,9 @@ impl Sequencer {
         ensures answer { result ≡ finish_answer (model self.now).program half memory.old }
         ensures memory { memory.new ≡ finish_memory (model self.now).program half memory.old }
     {
-        match &self.program {
-            Some(program) => finish_sheet(program.nodes(), program.code.text(), memory, half),
-            None => Err((
-                Refusal {
-                    cause: Cause::NoProgram,
-                    node: 0,
-                },
-                half,
-            )),
+        match self.program() {
+            Ok(program) => program.contents().finish(memory, half),
+            Err(refusal) => Err((refusal, half)),
         }
     }
 
@@ -44,12 +31,6 @@ impl Sequencer {
         ensures answer { result ≡ archive_answer (model self.now).program memory.old }
         ensures memory { memory.new ≡ archive_memory (model self.now).program memory.old }
     {
-        match &self.program {
-            Some(program) => write_sheet(program.nodes(), program.code.text(), memory),
-            None => Err(Refusal {
-                cause: Cause::NoProgram,
-                node: 0,
-            }),
-        }
+        self.program()?.contents().write(memory)
     }
 }

@@ -4,9 +4,11 @@
 mod accept;
 mod archive;
 mod begin;
+pub mod fuel;
 mod load;
 pub mod program;
 pub mod report;
 mod rewind;
 mod run;
 pub mod state;
+pub mod take;

@@ -9,25 +9,17 @@ impl Sequencer {
     pub fn load(&mut self, table: &[u8]) -> Result<(), Refusal>
         ensures { Loaded table.now self.old self.new result }
     {
-        match Program::accept(table) {
-            Ok(program) => {
-                self.begin(program);
-                Ok(())
-            }
-            Err(refusal) => Err(refusal),
-        }
+        let program = Program::accept(table)?;
+        self.begin(program);
+        Ok(())
     }
 
     // Takes a sheet: replaces the program and begins a take of it.
     pub fn open(&mut self, sheet: &[u8]) -> Result<(), Refusal>
         ensures { Opened sheet.now self.old self.new result }
     {
-        match Program::accept_sheet(sheet) {
-            Ok(program) => {
-                self.begin(program);
-                Ok(())
-            }
-            Err(refusal) => Err(refusal),
-        }
+        let program = Program::accept_sheet(sheet)?;
+        self.begin(program);
+        Ok(())
     }
 }

@@ -1,14 +1,15 @@
-ghost use Rattle.std.specs.Prelude.{◌≡◌, ◌≤◌, length};
+ghost use Rattle.std.specs.Prelude.{◌≡◌};
+ghost use Rattle.language.specs.Reading.{tree_of};
+ghost use Rattle.language.specs.Translation.{program};
 
-use translation::tables::Code;
+use translation::Code;
 use vocabulary::node::Node;
+use vocabulary::table::Table;
 
-// A table that was accepted: its nodes, the first `count` of `nodes`, and their code.
+// A table that was accepted: its nodes, and their translation.
 #[derive(Drop)]
 pub struct Program {
-    pub(crate) nodes: [Node; 512],
-    pub(crate) count: usize,
+    pub(crate) nodes: Table<Node, 512>,
     pub(crate) code: Code,
-    ghost sized: { length nodes ≡ 512 },
-    ghost within: { count ≤ 512 },
+    ghost translated: { code ≡ program (tree_of nodes) },
 }

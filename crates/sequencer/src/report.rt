@@ -6,14 +6,14 @@ use std::fmt;
 use vocabulary::end::End;
 
 // The end of a take, and the node at which it came.
-#[derive(Clone, Copy)]
+#[derive(Clone, Copy, PartialEq, Eq, Debug)]
 pub struct Stop {
     pub end: End,
     pub node: u16,
 }
 
 // What run and report answer: the end, if the take has ended, and the steps of the take.
-#[derive(Clone, Copy)]
+#[derive(Clone, Copy, PartialEq, Eq, Debug)]
 pub struct Report {
     pub stop: Option<Stop>,
     pub steps: u32,
@@ -48,28 +48,19 @@ impl Report {
     pub fn end(self) -> u8
         ensures { result ≡ end_in self }
     {
-        match self.stop {
-            Some(stop) => stop.end.number(),
-            None => 0,
-        }
+        self.stop.map_or(0, |stop| stop.end.number())
     }
 
     pub fn node(self) -> u16
         ensures { result ≡ node_in self }
     {
-        match self.stop {
-            Some(stop) => stop.node,
-            None => 0,
-        }
+        self.stop.map_or(0, |stop| stop.node)
     }
 
     pub fn code(self) -> u8
         ensures { result ≡ code_in self }
     {
-        match self.stop {
-            Some(stop) => stop.end.code(),
-            None => 0,
-        }
+        self.stop.map_or(0, |stop| stop.end.code())
     }
 }
 

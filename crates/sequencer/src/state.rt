@@ -1,18 +1,9 @@
-ghost use Rattle.std.specs.Prelude.{◌≤◌};
-
 use crate::program::Program;
-use machine::state::Machine;
-use machine::tables::Status;
+use crate::take::Take;
 
-// A program, if one was accepted, and its take: the machine, how it stands, the fuel granted so far and the steps
-// carried out.
+// A program, if one was accepted, and a take of it.
 #[derive(Drop)]
 pub struct Sequencer {
     pub(crate) program: Option<Program>,
-    pub(crate) machine: Machine,
-    pub(crate) status: Status,
-    pub(crate) granted: u32,
-    pub(crate) steps: u32,
-    ghost paid: { steps ≤ granted },
-    ghost bounded: { granted ≤ 1000000000 },
+    pub(crate) take: Take,
 }

@@ -1,16 +1,28 @@
 -- Entries of eight bytes each, one after the other: what a loop has written, or compared, after i of them.
-use Rattle.std.proofs.Common.{◌≡◌, ℕ, zero, suc, ◌+◌, ◌-◌, ◌*◌, ◌<◌, ◌≤◌, true, false, List, [], ◌∷◌, ◌++◌, length, get_or, take, drop, sym, refl, ap, ◌∙◌, inl, inr, append_assoc, append-nil, arith, length-append, length-drop, drop_of_length-le, drop-drop, take_at, take-add, drop_at}
-use lib.Seq.{drop-append-add}
+use Rattle.std.proofs.Common.{◌≡◌, ℕ, ◌+◌, ◌-◌, ◌*◌, ◌<◌, ◌≤◌, Bool, true, false, ◌&&◌, eqb, List, [], ◌∷◌, ◌++◌, length, get_or, take, drop, sym, refl, ap, ◌∙◌, inl, inr, append_assoc, append-nil, arith, length-append, length-drop, length-take-le, drop_of_length-le, drop-drop, take_at, drop_at}
 use borrow.Rule.Slice.PartMut.{put_mid}
 use Rattle.std.specs.Str.{bytes_eq}
 use Rattle.std.proofs.lemmas.Slice.Eq.{bytes_eq-Decides}
-use Rattle.std.proofs.lemmas.List.{take_more, take_all, length-take}
-use Rattle.std.proofs.lemmas.Bool.{cases_Bool, both_ways}
+use Rattle.std.specs.List.{list_all, zip}
+use Rattle.std.specs.Simd.{first_chunks}
+use Rattle.std.proofs.lemmas.List.{take_more, take_all, length-take, take-append-drop}
+use Rattle.std.proofs.lemmas.Bool.{cases_Bool}
 use Rattle.sheet.specs.Layout.{encoded}
 
 -- bytes that are not equal are told apart
 pub apart : (xs ys : List ℕ) → (xs ≡ ys → ⊥) → false ≡ bytes_eq xs ys
 apart xs ys f = elim (cases_Bool (bytes_eq xs ys)) [ inl e ↦ absurd (f ((bytes_eq-Decides xs ys).0 e)) | inr e ↦ sym e ]
+
+-- two parts are compared one after the other
+pub same_append : (xs h ys t : List ℕ) → length xs ≡ length h → bytes_eq (xs ++ ys) (h ++ t) ≡ (bytes_eq xs h && bytes_eq ys t)
+same_append [] [] ys t e = refl
+same_append [] (y ∷ h) ys t e = absurd (omega arith)
+same_append (x ∷ xs) [] ys t e = absurd (omega arith)
+same_append (x ∷ xs) (y ∷ h) ys t e = ap (λ (b : Bool). eqb x y && b) (same_append xs h ys t (omega arith)) ∙ and_assoc (eqb x y) (bytes_eq xs h) (bytes_eq ys t)
+  where
+    and_assoc : (a b c : Bool) → (a && (b && c)) ≡ (a && b && c)
+    and_assoc true b c = refl
+    and_assoc false b c = refl
 
 -- a part written behind A
 pub put_next : (a k : ℕ) (A E W T : List ℕ) → length A ≡ a → T ≡ A ++ drop a E → put_mid a k T W ≡ A ++ (W ++ drop (a + k) E)
@@ -52,38 +64,17 @@ module _ {X : Type 0} (bytes : X → List ℕ) (eight : (x : X) → length (byte
       ∙ (sym (append_assoc A W (drop (8 * (i + 1)) E))
       ∙ ap (λ (l : List ℕ). l ++ drop (8 * (i + 1)) E) (ap (λ (l : List ℕ). A ++ l) f ∙ sym (encoded_more bytes xs i d h))))
 
-  -- the bytes of the i-th entry
-  encoded_part : (xs : List X) (i : ℕ) (d : X) → i < length xs → take 8 (drop (8 * i) (encoded bytes xs)) ≡ bytes (get_or xs i d)
-  encoded_part [] i d h = absurd (omega arith)
-  encoded_part (x ∷ xs) zero d h = take_at (bytes x) (encoded bytes xs) 8 (eight x)
-  encoded_part (x ∷ xs) (suc i) d h =
-      let k = eight x in
-      let e : 8 * suc i ≡ length (bytes x) + 8 * i = omega arith in
-      ap (λ (n : ℕ). take 8 (drop n (bytes x ++ encoded bytes xs))) e ∙ (ap (take 8) (drop-append-add (bytes x) (encoded bytes xs) (8 * i)) ∙ encoded_part xs i d (omega arith))
-
-  pub match-step : (part W : List ℕ) (xs : List X) (i : ℕ) (d : X) → i < length xs → W ≡ bytes (get_or xs i d)
-      → true ≡ bytes_eq (take (8 * i + 8 - 8 * i) (drop (8 * i) part)) W → take (8 * i) part ≡ encoded bytes (take i xs) → take (8 * (i + 1)) part ≡ encoded bytes (take (i + 1) xs)
-  match-step part W xs i d h w s e =
-      let a : take (8 * i + 8 - 8 * i) (drop (8 * i) part) ≡ W = (bytes_eq-Decides (take (8 * i + 8 - 8 * i) (drop (8 * i) part)) W).0 (sym s) in
-      let b : take (8 * (i + 1)) part ≡ take (8 * i) part ++ take (8 * i + 8 - 8 * i) (drop (8 * i) part) =
-      ap (λ (n : ℕ). take n part) {x = 8 * (i + 1)} {y = 8 * i + (8 * i + 8 - 8 * i)} (omega arith) ∙ take-add (8 * i) (8 * i + 8 - 8 * i) part in
-      let f = encoded_more bytes xs i d h in
-      cc
-
-  pub match_all : (part : List ℕ) (xs : List X) (i : ℕ) → length part ≡ 8 * length xs → length xs ≤ i → i ≤ length xs → take (8 * i) part ≡ encoded bytes (take i xs) → true ≡ bytes_eq part (encoded bytes xs)
-  match_all part xs i l h k e =
-      let a : take (8 * i) part ≡ part = take_all (8 * i) part (omega arith) in
-      let b : take i xs ≡ xs = take_all i xs h in
-      let f : part ≡ encoded bytes xs = cc in
-      sym ((bytes_eq-Decides part (encoded bytes xs)).1 f)
-
-  pub match_not : (part W : List ℕ) (xs : List X) (i : ℕ) (d : X) → i < length xs → W ≡ bytes (get_or xs i d)
-      → false ≡ bytes_eq (take (8 * i + 8 - 8 * i) (drop (8 * i) part)) W → false ≡ bytes_eq part (encoded bytes xs)
-  match_not part W xs i d h w s = apart part (encoded bytes xs) (λ p.
-      let n : 8 * i + 8 - 8 * i ≡ 8 = omega arith in
-      let q = encoded_part xs i d h in
-      let e : take (8 * i + 8 - 8 * i) (drop (8 * i) part) ≡ W = cc in
-      both_ways (bytes_eq (take (8 * i + 8 - 8 * i) (drop (8 * i) part)) W) (sym s) ((bytes_eq-Decides (take (8 * i + 8 - 8 * i) (drop (8 * i) part)) W).1 e))
+  -- each eight bytes are those of their entry
+  pub match_all : (part : List ℕ) (xs : List X) → length part ≡ 8 * length xs →
+      list_all (λ p. bytes_eq p.0 (bytes p.1)) (zip (first_chunks 8 (length xs) part) xs) ≡ bytes_eq part (encoded bytes xs)
+  match_all [] [] h = refl
+  match_all (y ∷ ys) [] h = absurd (omega arith)
+  match_all part (x ∷ xs) h =
+      let e = match_all (drop 8 part) xs (simp length-drop (omega arith)) in
+      let n : length (take 8 part) ≡ length (bytes x) = length-take-le 8 part (omega arith) ∙ sym (eight x) in
+      ap (λ (b : Bool). bytes_eq (take 8 part) (bytes x) && b) e
+      ∙ (sym (same_append (take 8 part) (bytes x) (drop 8 part) (encoded bytes xs) n)
+      ∙ ap (λ (z : List ℕ). bytes_eq z (bytes x ++ encoded bytes xs)) (take-append-drop 8 part))
 
   pub match-length : (part : List ℕ) (xs : List X) → (length part ≡ 8 * length xs → ⊥) → false ≡ bytes_eq part (encoded bytes xs)
   match-length part xs f = apart part (encoded bytes xs) (λ p. f (ap length p ∙ encoded-length xs))

@@ -1,14 +1,19 @@
 -- The half sheet in a memory: what start leaves there, when it is recognised, and what finish makes of it.
-use Rattle.std.proofs.Common.{◌≡◌, ℕ, ◌+◌, ◌-◌, ◌*◌, ◌≤◌, Bool, true, false, ◌&&◌, eqb, List, [], ◌∷◌, ◌++◌, length, take, drop, sym, refl, ap, ◌∙◌, append_assoc, arith, length-take-le, drop-drop, take_at, take-add, drop_at}
+use Rattle.std.proofs.Common.{◌≡◌, ℕ, ◌+◌, ◌-◌, ◌*◌, ◌≤◌, Bool, true, false, ◌&&◌, not, eqb, leb, List, ◌++◌, length, take, drop, Some, Ok, sym, refl, ap, ◌∙◌, append_assoc, arith, length-take-le, drop-drop, take_at, take-add, drop_at}
 use borrow.Rule.Slice.PartMut.{put_mid}
 use Rattle.std.specs.Str.{bytes_eq}
 use Rattle.std.proofs.lemmas.Slice.Eq.{bytes_eq-Decides}
-use Rattle.std.proofs.lemmas.Bool.{and_parts, eq-eqb, eqb-true}
+use Rattle.std.proofs.lemmas.Bool.{and_parts, eqb-true, leb-true}
+use Rattle.language.proofs.Verdicts.{both_accept, unless_accepts}
+use Rattle.vocabulary.specs.declared.code.Word.{Word}
+use Rattle.vocabulary.specs.declared.refusal.Cause.TheVariants.{MemoryShort, NotThisHalf}
+use Rattle.vocabulary.specs.Refusals.{unless}
 use Rattle.vocabulary.specs.declared.node.Node.{Node}
 use Rattle.sheet.specs.declared.half.HalfSheet.{HalfSheet}
 use Rattle.sheet.specs.Layout.{Program, archive, table_bytes, code_bytes, header, offset_of, size_of, half_of, sheet_of}
-use Rattle.sheet.specs.Sheets.{is_half}
-use Rattle.sheet.proofs.Entries.{tail_is}
+use Rattle.sheet.specs.Sheets.{is_half, start_verdict, finish_verdict}
+use Rattle.sheet.specs.Writing.{decided, half_sheet_of, start_memory, finish_memory}
+use Rattle.sheet.proofs.Entries.{same_append, tail_is}
 
 -- the parts from a to b, and from b on, of a list that is cut at a
 drop-front : (a b : ℕ) (xs ys : List ℕ) → a ≤ b → b ≤ length xs → drop a (take b xs ++ ys) ≡ take (b - a) (drop a xs) ++ ys
@@ -16,26 +21,34 @@ drop-front a b xs ys h k =
     let e : take b xs ≡ take a xs ++ take (b - a) (drop a xs) = ap (λ (n : ℕ). take n xs) {x = b} {y = a + (b - a)} (omega arith) ∙ take-add a (b - a) xs in
     ap (λ (z : List ℕ). drop a (z ++ ys)) e ∙ (ap (drop a) (append_assoc (take a xs) (take (b - a) (drop a xs)) ys) ∙ drop_at (take a xs) (take (b - a) (drop a xs) ++ ys) a (length-take-le a xs (omega arith)))
 
-same_append : (xs h ys t : List ℕ) → length xs ≡ length h → bytes_eq (xs ++ ys) (h ++ t) ≡ (bytes_eq xs h && bytes_eq ys t)
-same_append [] [] ys t e = refl
-same_append [] (y ∷ h) ys t e = absurd (omega arith)
-same_append (x ∷ xs) [] ys t e = absurd (omega arith)
-same_append (x ∷ xs) (y ∷ h) ys t e = ap (λ (b : Bool). eqb x y && b) (same_append xs h ys t (omega arith)) ∙ and_assoc (eqb x y) (bytes_eq xs h) (bytes_eq ys t)
+-- the bytes of a half sheet are its header's and its nodes'
+pub half_is : (p : Program) (half : HalfSheet) (mem : List ℕ) → offset_of (length p.nodes) ≤ length mem → is_half p half mem
+    ≡ (eqb half.nodes (length p.nodes) && eqb half.code_at (offset_of (length p.nodes))
+    && (bytes_eq (take 16 mem) (header (length p.nodes) 0 0 0) && bytes_eq (take (8 * length p.nodes) (drop 16 mem)) (table_bytes p.nodes)))
+half_is p half mem l =
+    let N = length p.nodes in
+    let n : length (take 16 mem) ≡ 16 = length-take-le 16 mem (omega arith) in
+    ap (λ (b : Bool). eqb half.nodes N && eqb half.code_at (offset_of N) && b)
+    (ap (λ (z : List ℕ). bytes_eq z (half_of p)) (take-add 16 (8 * N) mem)
+    ∙ same_append (take 16 mem) (header N 0 0 0) (take (8 * N) (drop 16 mem)) (table_bytes p.nodes) n)
+
+-- where the half sheet is the one that start gives, its header and its nodes decide
+pub begun_is : (p : Program) (half given : HalfSheet) (mem head whole : List ℕ) (r : Bool) → offset_of (length p.nodes) ≤ length mem → given ≡ half_sheet_of p
+    → false ≡ not (eqb half.nodes given.nodes && eqb half.code_at given.code_at) → head ≡ header half.nodes 0 0 0 → whole ≡ head → r ≡ bytes_eq (take 16 mem) whole
+    → is_half p half mem ≡ (r && bytes_eq (take (8 * length p.nodes) (drop 16 mem)) (table_bytes p.nodes))
+begun_is p half given mem head whole r l g t d f q =
+    let N = length p.nodes in
+    let s : (eqb half.nodes N && eqb half.code_at (offset_of N)) ≡ true = rw g at (holds (eqb half.nodes given.nodes && eqb half.code_at given.code_at) t) in
+    let k : half.nodes ≡ N = eqb-true half.nodes N (and_parts (eqb half.nodes N) (eqb half.code_at (offset_of N)) s).0 in
+    let e : whole ≡ header N 0 0 0 = f ∙ (d ∙ ap (λ (n : ℕ). header n 0 0 0) k) in
+    half_is p half mem l ∙ (ap (λ (b : Bool). b && (bytes_eq (take 16 mem) (header N 0 0 0) && bytes_eq (take (8 * N) (drop 16 mem)) (table_bytes p.nodes))) s
+    ∙ ap (λ (b : Bool). b && bytes_eq (take (8 * N) (drop 16 mem)) (table_bytes p.nodes)) (ap (bytes_eq (take 16 mem)) (sym e) ∙ sym q))
   where
-    and_assoc : (a b c : Bool) → (a && (b && c)) ≡ (a && b && c)
-    and_assoc true b c = refl
-    and_assoc false b c = refl
+    holds : (b : Bool) → false ≡ not b → b ≡ true
+    holds true e = refl
+    holds false e = e
 
 module _ (nodes : List Node) (mem : List ℕ) where
-  -- the bytes of a half sheet are its header's and its nodes'
-  pub half_is : (half : HalfSheet) → offset_of (length nodes) ≤ length mem → half.nodes ≡ length nodes → half.code_at ≡ offset_of (length nodes)
-      → is_half (archive nodes []) half mem ≡ (bytes_eq (take 16 mem) (header (length nodes) 0 0 0) && bytes_eq (take (8 * length nodes) (drop 16 mem)) (table_bytes nodes))
-  half_is half l e f =
-      let a = eq-eqb half.nodes (length nodes) e in
-      let b = eq-eqb half.code_at (offset_of (length nodes)) f in
-      let n : length (take 16 mem) ≡ 16 = length-take-le 16 mem (omega arith) in
-      rw (a, b, take-add 16 (8 * length nodes) mem) (same_append (take 16 mem) (header (length nodes) 0 0 0) (take (8 * length nodes) (drop 16 mem)) (table_bytes nodes) n)
-
   -- what start leaves: the header first, then the nodes
   pub started : (head m1 ys : List ℕ) → length head ≡ 16 → 16 ≤ length mem → m1 ≡ head ++ drop 16 mem → ys ≡ table_bytes nodes ++ drop (8 * length nodes) (take (length m1 - 16) (drop 16 m1))
       → put_mid 16 (length m1 - 16) m1 ys ≡ (head ++ table_bytes nodes) ++ drop (offset_of (length nodes)) mem
@@ -88,3 +101,33 @@ finished p half mem m2 h e =
     let f : m2 ≡ head ++ (table_bytes p.nodes ++ (code_bytes p.code ++ drop (size_of p) mem)) = e ∙ (let a = h.nodes in let b = h.offset in cc) in
     f ∙ (ap (λ (z : List ℕ). head ++ z) (sym (append_assoc (table_bytes p.nodes) (code_bytes p.code) (drop (size_of p) mem)))
     ∙ sym (append_assoc head (table_bytes p.nodes ++ code_bytes p.code) (drop (size_of p) mem)))
+
+-- what start leaves, by its parts
+pub start_left : (p : Program) (nodes : List Node) (code : List Word) (half : HalfSheet) (mem head m1 ys : List ℕ) → archive nodes code ≡ p
+    → start_verdict (Some p) (length mem) ≡ Ok tt → half ≡ half_sheet_of p → head ≡ header half.nodes 0 0 0 → m1 ≡ head ++ drop 16 mem
+    → ys ≡ table_bytes nodes ++ drop (8 * length nodes) (take (length m1 - 16) (drop 16 m1)) → put_mid 16 (length m1 - 16) m1 ys ≡ start_memory (Some p) mem
+start_left p nodes code half mem head m1 ys e v h d f g =
+    let room : size_of p ≤ length mem = leb-true (size_of p) (length mem) (unless_accepts (leb (size_of p) (length mem)) MemoryShort 0 v) in
+    let n : p.nodes ≡ nodes = ap (λ (x : Program). x.nodes) (sym e) in
+    let k : half.nodes ≡ length nodes = ap (λ (x : HalfSheet). x.nodes) h ∙ ap length n in
+    let m : start_memory (Some p) mem ≡ half_of p ++ drop (offset_of (length p.nodes)) mem =
+    ap (λ r. decided r (half_of p ++ drop (offset_of (length p.nodes)) mem) (λ x. mem)) v in
+    started nodes mem head m1 ys (ap length d) (omega arith) f g
+    ∙ (ap (λ (z : List ℕ). (z ++ table_bytes nodes) ++ drop (offset_of (length nodes)) mem) (d ∙ ap (λ (x : ℕ). header x 0 0 0) k)
+    ∙ (ap (λ (ns : List Node). (header (length ns) 0 0 0 ++ table_bytes ns) ++ drop (offset_of (length ns)) mem) (sym n) ∙ sym m))
+
+-- what finish leaves, by its parts
+pub finish_left : (p : Program) (nodes : List Node) (code : List Word) (half : HalfSheet) (mem m2 : List ℕ) → archive nodes code ≡ p
+    → finish_verdict (Some p) half mem ≡ Ok tt
+    → m2 ≡ header half.nodes (length code) half.code_at (half.code_at + 8 * length code)
+    ++ (take (half.code_at - 16) (drop 16 mem) ++ (code_bytes code ++ drop (half.code_at + 8 * length code) mem))
+    → m2 ≡ finish_memory (Some p) half mem
+finish_left p nodes code half mem m2 e v h =
+    let a = both_accept (unless (leb (size_of p) (length mem)) MemoryShort 0) (unless (is_half p half mem) NotThisHalf 0) v in
+    let room : size_of p ≤ length mem = leb-true (size_of p) (length mem) (unless_accepts (leb (size_of p) (length mem)) MemoryShort 0 a.0) in
+    let begun : is_half p half mem ≡ true = unless_accepts (is_half p half mem) NotThisHalf 0 a.1 in
+    let w : code ≡ p.code = ap (λ (x : Program). x.code) e in
+    let m : finish_memory (Some p) half mem ≡ sheet_of p ++ drop (size_of p) mem = ap (λ r. decided r (sheet_of p ++ drop (size_of p) mem) (λ x. mem)) v in
+    let l : List Word → List ℕ = λ ws. header half.nodes (length ws) half.code_at (half.code_at + 8 * length ws)
+    ++ (take (half.code_at - 16) (drop 16 mem) ++ (code_bytes ws ++ drop (half.code_at + 8 * length ws) mem)) in
+    finished p half mem m2 (half_means p half mem (omega arith) begun) (h ∙ ap l w) ∙ sym m

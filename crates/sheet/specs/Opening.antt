@@ -2,7 +2,7 @@
 use Rattle.std.specs.Prelude.{ℕ, cond, List, length, Some, None, Option, nat_lt}
 use Rattle.language.specs.Table.{field}
 use Rattle.sheet.specs.declared.open.Header.{Header}
-use Rattle.sheet.specs.declared.open.Counts.{Counts}
+use Rattle.sheet.specs.declared.layout.Counts.{Counts}
 use Rattle.sheet.specs.Sheets.{node_count, word_count, framed}
 
 -- the eight numbers at the start of a sheet

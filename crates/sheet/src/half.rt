@@ -1,59 +1,19 @@
-ghost use Rattle.std.specs.Prelude.{◌≡◌, ◌+◌, ◌-◌, ◌*◌, ◌^◌, ◌<◌, ◌≤◌, [], ◌++◌, length, take, drop, Some};
-ghost use Rattle.sheet.specs.Layout.{offset_of, code_bytes, header, archive};
-ghost use Rattle.sheet.specs.Sheets.{is_half};
-ghost use Rattle.sheet.specs.Writing.{start_answer, start_memory, finish_answer, finish_memory};
+ghost use Rattle.std.specs.Prelude.{◌≡◌, ◌+◌, ◌-◌, ◌*◌, ◌^◌, ◌<◌, ◌≤◌, ◌++◌, length, take, drop, Some};
+ghost use Rattle.sheet.specs.Layout.{code_bytes, header, size_of};
+ghost use Rattle.sheet.specs.Sheets.{is_half, start_verdict, finish_verdict};
+ghost use Rattle.sheet.specs.Writing.{half_sheet_of, start_answer, start_memory, finish_answer, finish_memory};
 
+use crate::contents::Contents;
 use crate::layout::{ENTRY, HEADER, header_bytes};
-use crate::write::{entries_match, same_bytes, write_entries, write_header};
+use crate::write::{entries_match, write_entries, write_header};
 use vocabulary::code::Word;
-use vocabulary::node::Node;
 use vocabulary::refusal::{Cause, Refusal};
 
 // What `start` hands to `finish`: how many nodes it wrote, and where the code goes. Only `start` makes one, and `finish` spends it.
-#[derive(Drop)]
+#[derive(PartialEq, Eq, Debug, Drop)]
 pub struct HalfSheet {
     nodes: u16,
     code_at: u16,
-}
-
-// Writes the header of a half sheet and the nodes, where the memory has room for the finished sheet.
-pub fn start(nodes: &[Node], code: &[Word], memory: &mut [u8]) -> Result<HalfSheet, Refusal>
-    requires nodes { length nodes.now ≤ 512 }
-    requires words { length code.now ≤ 1537 }
-    ensures answer { result ≡ start_answer (Some (archive nodes.now code.now)) memory.old }
-    ensures memory { memory.new ≡ start_memory (Some (archive nodes.now code.now)) memory.old }
-{
-    let offset = HEADER + ENTRY * nodes.len();
-    if memory.len() < offset + ENTRY * code.len() {
-        return Err(Refusal {
-            cause: Cause::MemoryShort,
-            node: 0,
-        });
-    }
-    let count = nodes.len() as u16;
-    write_header(memory, &header_bytes(count, 0, 0, 0));
-    write_entries(&mut memory[HEADER..], nodes);
-    Ok(HalfSheet {
-        nodes: count,
-        code_at: offset as u16,
-    })
-}
-
-// Whether the memory begins with the half sheet of these nodes, and this is its half sheet. The code has no part in it.
-fn is_half(nodes: &[Node], memory: &[u8], half: &HalfSheet) -> bool
-    requires nodes { length nodes.now ≤ 512 }
-    requires room { offset_of (length nodes.now) ≤ length memory.now }
-    ensures { result ≡ is_half (archive nodes.now []) half.now memory.now }
-{
-    let count = nodes.len() as u16;
-    let offset = HEADER + ENTRY * nodes.len();
-    if half.nodes != count || half.code_at as usize != offset {
-        return false;
-    }
-    if !same_bytes(&memory[..HEADER], &header_bytes(count, 0, 0, 0)) {
-        return false;
-    }
-    entries_match(&memory[HEADER..offset], nodes)
 }
 
 // Writes the code behind the nodes, and the full header last: until then the memory holds no sheet that opens.
@@ -75,37 +35,73 @@ fn complete(code: &[Word], memory: &mut [u8], half: HalfSheet)
     );
 }
 
-// Writes the code and the full header where `start` has left the program's half sheet, and answers the sheet's length.
-pub fn finish(
-    nodes: &[Node],
-    code: &[Word],
-    memory: &mut [u8],
-    half: HalfSheet,
-) -> Result<usize, (Refusal, HalfSheet)>
-    requires nodes { length nodes.now ≤ 512 }
-    requires words { length code.now ≤ 1537 }
-    ensures answer { result ≡ finish_answer (Some (archive nodes.now code.now)) half memory.old }
-    ensures memory { memory.new ≡ finish_memory (Some (archive nodes.now code.now)) half memory.old }
-{
-    let total = HEADER + ENTRY * nodes.len() + ENTRY * code.len();
-    if memory.len() < total {
-        return Err((
-            Refusal {
-                cause: Cause::MemoryShort,
-                node: 0,
-            },
-            half,
-        ));
+impl Contents<'_> {
+    // The half sheet of these nodes.
+    fn half(&self) -> HalfSheet
+        ensures { result ≡ half_sheet_of self.now }
+    {
+        let counts = self.counts();
+        HalfSheet {
+            nodes: counts.nodes,
+            code_at: counts.code_at() as u16,
+        }
     }
-    if !is_half(nodes, memory, &half) {
-        return Err((
-            Refusal {
-                cause: Cause::NotThisHalf,
-                node: 0,
-            },
-            half,
-        ));
+
+    // Whether the memory has room for the finished sheet.
+    fn check_room(&self, memory: &[u8]) -> Result<(), Refusal>
+        ensures { result ≡ start_verdict (Some self.now) (length memory.now) }
+    {
+        if memory.len() < self.counts().total() {
+            return Err(Cause::MemoryShort.into());
+        }
+        Ok(())
     }
-    complete(code, memory, half);
-    Ok(total)
+
+    // Whether the memory begins with the half sheet of these nodes, and this is its half sheet. The code has no part in it.
+    fn has_begun(&self, memory: &[u8], half: &HalfSheet) -> bool
+        requires { size_of self.now ≤ length memory.now }
+        ensures { result ≡ is_half self.now half.now memory.now }
+    {
+        if *half != self.half() {
+            return false;
+        }
+        let header = header_bytes(half.nodes, 0, 0, 0);
+        &memory[..HEADER] == header.as_slice()
+            && entries_match(&memory[HEADER..self.counts().code_at()], self.nodes)
+    }
+
+    // Whether the sheet can be finished: the room comes first.
+    fn check_half(&self, memory: &[u8], half: &HalfSheet) -> Result<(), Refusal>
+        ensures { result ≡ finish_verdict (Some self.now) half.now memory.now }
+    {
+        self.check_room(memory)?;
+        if !self.has_begun(memory, half) {
+            return Err(Cause::NotThisHalf.into());
+        }
+        Ok(())
+    }
+
+    // Writes the header of a half sheet and the nodes, where the memory has room for the finished sheet.
+    pub fn start(&self, memory: &mut [u8]) -> Result<HalfSheet, Refusal>
+        ensures answer { result ≡ start_answer (Some self.now) memory.old }
+        ensures memory { memory.new ≡ start_memory (Some self.now) memory.old }
+    {
+        let half = self.half();
+        self.check_room(memory)?;
+        write_header(memory, &header_bytes(half.nodes, 0, 0, 0));
+        write_entries(&mut memory[HEADER..], self.nodes);
+        Ok(half)
+    }
+
+    // Writes the code and the full header where `start` has left the half sheet, and answers the sheet's length.
+    pub fn finish(&self, memory: &mut [u8], half: HalfSheet) -> Result<usize, (Refusal, HalfSheet)>
+        ensures answer { result ≡ finish_answer (Some self.now) half memory.old }
+        ensures memory { memory.new ≡ finish_memory (Some self.now) half memory.old }
+    {
+        if let Err(refusal) = self.check_half(memory, &half) {
+            return Err((refusal, half));
+        }
+        complete(self.code, memory, half);
+        Ok(self.counts().total())
+    }
 }

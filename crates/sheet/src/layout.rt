@@ -1,5 +1,5 @@
 ghost use Rattle.std.specs.Prelude.{◌≡◌, ℕ, List, length, refl};
-ghost use Rattle.sheet.specs.Layout.{node_bytes, word_bytes, header};
+ghost use Rattle.sheet.specs.Layout.{node_bytes, word_bytes, header, offset_of, total_of};
 
 use vocabulary::code::Word;
 use vocabulary::node::Node;
@@ -9,6 +9,29 @@ pub const HEADER: usize = 16;
 
 // The bytes of an entry, which is a node or a code word.
 pub const ENTRY: usize = 8;
+
+// How many nodes and code words a sheet has.
+#[derive(Clone, Copy, PartialEq, Eq, Debug)]
+pub struct Counts {
+    pub nodes: u16,
+    pub words: u16,
+}
+
+impl Counts {
+    // Where the code begins.
+    pub fn code_at(self) -> usize
+        ensures { result ≡ offset_of self.nodes }
+    {
+        HEADER + ENTRY * usize::from(self.nodes)
+    }
+
+    // The bytes of the whole sheet. The sum is one of `usize`, so that it does not wrap at 16 bits.
+    pub fn total(self) -> usize
+        ensures { result ≡ total_of self.nodes self.words }
+    {
+        self.code_at() + ENTRY * usize::from(self.words)
+    }
+}
 
 // What a sheet has a list of, eight bytes each.
 pub trait Entry: Copy {

@@ -2,7 +2,8 @@
 // and it is opened by reading its header and comparing its code.
 #![tactic(auto)]
 
-pub mod archive;
+mod archive;
+pub mod contents;
 pub mod half;
 pub mod layout;
 pub mod open;

@@ -1,14 +1,14 @@
-ghost use Rattle.std.specs.Prelude.{◌≡◌, ◌+◌, ◌*◌, ◌&&◌, ◌==◌, nat_eq};
+ghost use Rattle.std.specs.Prelude.{◌≡◌, ◌+◌, ◌*◌};
 ghost use Rattle.std.specs.Str.{bytes_eq};
 ghost use Rattle.sheet.specs.Layout.{code_bytes};
 ghost use Rattle.sheet.specs.Opening.{header_in, counts_in};
 
-use crate::layout::{ENTRY, HEADER};
+use crate::layout::Counts;
 use crate::write::entries_match;
 use vocabulary::code::Word;
 
 // The eight numbers of a header, as the bytes have them.
-#[derive(Clone, Copy)]
+#[derive(Clone, Copy, PartialEq, Eq, Debug)]
 pub struct Header {
     pub version: u16,
     pub nodes: u16,
@@ -18,13 +18,6 @@ pub struct Header {
     pub total: u16,
     pub spare: u16,
     pub last: u16,
-}
-
-// How many nodes and code words a sheet has.
-#[derive(Clone, Copy)]
-pub struct Counts {
-    pub nodes: usize,
-    pub words: usize,
 }
 
 // A 16-bit number, low byte first.
@@ -72,31 +65,28 @@ pub fn open_header(sheet: &[u8]) -> Option<Header>
     })
 }
 
-// Whether the header's other numbers are as its two counts give them, with this offset of the code and this total.
-fn is_consistent(header: Header, offset: usize, total: usize) -> bool
-    ensures { result ≡ (header.version == 1 && nat_eq header.nodes_at 16 && nat_eq header.code_at offset && header.total == total && header.spare == 0 && header.last == 0) }
-{
-    header.version == 1
-        && header.nodes_at == 16
-        && usize::from(header.code_at) == offset
-        && usize::from(header.total) == total
-        && header.spare == 0
-        && header.last == 0
-}
-
-// The counts of a sheet whose header is as they give it, and which is as long as the header says. No sum wraps at 16 bits.
+// The counts of a sheet whose header is the one that they give, and which is as long as the header says.
 pub fn frame(sheet: &[u8]) -> Option<Counts>
     ensures { result ≡ counts_in sheet.now }
 {
-    let Some(header) = open_header(sheet) else {
-        return None;
+    let header = open_header(sheet)?;
+    let counts = Counts {
+        nodes: header.nodes,
+        words: header.words,
     };
-    let nodes = usize::from(header.nodes);
-    let words = usize::from(header.words);
-    let offset = HEADER + ENTRY * nodes;
-    let total = offset + ENTRY * words;
-    if is_consistent(header, offset, total) && sheet.len() == total {
-        Some(Counts { nodes, words })
+    let total = counts.total();
+    let given = Header {
+        version: 1,
+        nodes: counts.nodes,
+        words: counts.words,
+        nodes_at: 16,
+        code_at: u16::try_from(counts.code_at()).ok()?,
+        total: u16::try_from(total).ok()?,
+        spare: 0,
+        last: 0,
+    };
+    if header == given && sheet.len() == total {
+        Some(counts)
     } else {
         None
     }

@@ -9,6 +9,8 @@ pub fn write_entries<T: Entry>(tail: &mut [u8], entries: &[T])
     requires { 8 * length entries.now ≤ length tail.old }
     ensures { tail.new ≡ encoded T.Entry.encoding entries.now ++ drop (8 * length entries.now) tail.old }
 {
+    // By place: over `as_chunks_mut`, and over a rest cut by `split_first_chunk_mut`, the proof didn't close, since nothing is known of
+    // the whole once the parts are given back.
     for (i, entry) in entries.iter().enumerate() {
         let bytes = entry.to_bytes();
         tail[ENTRY * i..ENTRY * i + ENTRY].copy_from_slice(&bytes);
@@ -23,24 +25,16 @@ pub fn write_header(memory: &mut [u8], bytes: &[u8; 16])
     memory[..HEADER].copy_from_slice(bytes);
 }
 
-pub fn same_bytes(left: &[u8], right: &[u8]) -> bool
-    ensures { result ≡ bytes_eq left.now right.now }
-{
-    left == right
-}
-
 // Whether these bytes are those of the entries, and no more.
 pub fn entries_match<T: Entry>(part: &[u8], entries: &[T]) -> bool
     ensures { result ≡ bytes_eq part.now (encoded T.Entry.encoding entries.now) }
 {
-    if part.len() % ENTRY != 0 || part.len() / ENTRY != entries.len() {
+    let (chunks, rest) = part.as_chunks::<ENTRY>();
+    if !rest.is_empty() || chunks.len() != entries.len() {
         return false;
     }
-    for (i, entry) in entries.iter().enumerate() {
-        let bytes = entry.to_bytes();
-        if !same_bytes(&part[ENTRY * i..ENTRY * i + ENTRY], &bytes) {
-            return false;
-        }
-    }
-    true
+    chunks
+        .iter()
+        .zip(entries)
+        .all(|(bytes, entry)| *bytes == entry.to_bytes())
 }

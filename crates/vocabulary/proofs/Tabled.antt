@@ -1,4 +1,4 @@
-use Rattle.std.proofs.Common.{◌≡◌, ℕ, zero, suc, ◌+◌, ◌-◌, ◌<◌, ◌≤◌, List, [], ◌∷◌, ◌++◌, reverse, length, get_or, take, drop, set, Some, None, sym, refl, ap, ◌∙◌, le_of_suc-le-suc, not-suc-le-zero, arith}
+use Rattle.std.proofs.Common.{◌≡◌, ℕ, zero, suc, ◌+◌, ◌-◌, ◌<◌, ◌≤◌, List, [], ◌∷◌, ◌++◌, reverse, length, get_or, take, drop, set, Some, None, sym, refl, ap, ◌∙◌, ◌⊎◌, inl, inr, le_of_suc-le-suc, not-suc-le-zero, arith}
 use Rattle.std.proofs.lemmas.List.{take_more, take_more_set, reverse-append, length-reverse, length-take-le, length-take, take-take, take_all, get_or-take, take-append-drop, drop_at, length-drop}
 use lib.Seq.{take-set-lt}
 use Rattle.vocabulary.specs.Tables.{stack, front, found, oldest}
@@ -64,7 +64,11 @@ module _ {X : Type 0} where
   unfolding front
   front_uncut xs m n h = sym (take_all m (take n xs) (rw length-take (omega arith)))
 
-  reverse-take : (m : ℕ) (ys : List X) → reverse (take m ys) ≡ oldest m (reverse ys)
+  pub take_least : (m n k : ℕ) (xs : List X) → k ≤ n → (k ≡ m) ⊎ ((k ≡ n) × (n ≤ m)) → take k xs ≡ take m (take n xs)
+  take_least m n k xs l (inl e) = sym (ap (λ j. take j (take n xs)) (sym e) ∙ take-take k n xs l)
+  take_least m n k xs l (inr e) = sym (take_all m (take n xs) (rw length-take (omega (arith, e.1))) ∙ ap (λ j. take j xs) (sym e.0))
+
+  pub reverse-take : (m : ℕ) (ys : List X) → reverse (take m ys) ≡ oldest m (reverse ys)
   reverse-take m ys =
       let l : length (reverse (drop m ys)) ≡ length (reverse ys) - m = rw (length-reverse, length-drop, length-reverse) in
       let e : reverse ys ≡ reverse (drop m ys) ++ reverse (take m ys) = sym (ap reverse (take-append-drop m ys)) ∙ reverse-append (take m ys) (drop m ys) in

@@ -1,7 +1,8 @@
 -- The numbers and the names of operations and instructions.
-use Rattle.std.specs.Prelude.{ℕ, true, false, List, ℤ, pos, codes}
+use Rattle.std.specs.Prelude.{◌≡◌, ◌≢◌, ℕ, true, false, List, ℤ, pos, codes, Result, MatchResult}
 use Rattle.vocabulary.specs.declared.code.Operation.{Operation}
 use Rattle.vocabulary.specs.declared.code.Operation.TheVariants.{Sum, Difference, Product, Quotient, Equal, Less}
+use Rattle.vocabulary.specs.declared.code.UnknownOperator.{UnknownOperator}
 use Rattle.vocabulary.specs.declared.code.Instruction.{Instruction}
 use Rattle.vocabulary.specs.declared.code.Instruction.TheVariants.{Num, Truth, Read, Look, Deref, Op, JumpFalse, Jump, Call, Ret, IsLoc, Store, Put, Enter, Leave, Bind, New, Clos, Halt}
 
@@ -13,6 +14,10 @@ operator_of Product = 3
 operator_of Quotient = 4
 operator_of Equal = 5
 operator_of Less = 6
+
+-- the operation with this number, or none has it
+abbrev pub OperatorIn : ℕ → Result Operation UnknownOperator → Type 0
+OperatorIn n r = MatchResult r (λ o. operator_of o ≡ n) (λ _. (o : Operation) → operator_of o ≢ n)
 
 -- the opcode of an instruction
 abbrev pub opcode_of : Instruction → ℕ

@@ -1,4 +1,5 @@
 pub mod Tables
+pub mod Appending
 pub mod Codes
 pub mod Refusals
 pub mod Ends

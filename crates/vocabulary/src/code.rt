@@ -1,12 +1,13 @@
 ghost use Rattle.std.specs.Prelude.{◌≡◌, Some};
-ghost use Rattle.vocabulary.specs.Codes.{name_of, opcode_of, operand_of, operation_name, operator_of};
+ghost use Rattle.vocabulary.specs.Codes.{OperatorIn, name_of, opcode_of, operand_of, operation_name, operator_of};
 
+use std::error::Error;
 use std::fmt;
 
 // The operations on two numbers, in the order of their operator numbers 1 to 6.
-#[derive(Clone, Copy)]
+#[derive(Clone, Copy, PartialEq, Eq, Debug)]
 pub enum Operation {
-    Sum,
+    Sum = 1,
     Difference,
     Product,
     Quotient,
@@ -15,7 +16,7 @@ pub enum Operation {
 }
 
 // The machine's instructions, in the order of their opcodes 1 to 19, each with its operand.
-#[derive(Clone, Copy)]
+#[derive(Clone, Copy, PartialEq, Eq, Debug)]
 pub enum Instruction {
     Num(i32),
     Truth(bool),
@@ -39,7 +40,7 @@ pub enum Instruction {
 }
 
 // A word of code: an instruction, and the node that it comes from.
-#[derive(Clone, Copy)]
+#[derive(Clone, Copy, PartialEq, Eq, Debug)]
 pub struct Word {
     pub instruction: Instruction,
     pub node: u16,
@@ -50,13 +51,36 @@ impl Operation {
     pub fn number(self) -> u8
         ensures { result ≡ operator_of self }
     {
-        match self {
-            Operation::Sum => 1,
-            Operation::Difference => 2,
-            Operation::Product => 3,
-            Operation::Quotient => 4,
-            Operation::Equal => 5,
-            Operation::Less => 6,
+        self as u8
+    }
+}
+
+// A number that is no operator's.
+#[derive(Clone, Copy, PartialEq, Eq, Debug)]
+pub struct UnknownOperator;
+
+impl fmt::Display for UnknownOperator {
+    fn fmt<W: fmt::Write>(&self, f: &mut fmt::Formatter<W>) -> fmt::Result {
+        f.write_str("operators are 1 to 6")
+    }
+}
+
+impl Error for UnknownOperator {}
+
+impl TryFrom<u8> for Operation {
+    type Error = UnknownOperator;
+
+    ghost try_from_gives = { OperatorIn };
+
+    fn try_from(operator: u8) -> Result<Operation, UnknownOperator> {
+        match operator {
+            1 => Ok(Operation::Sum),
+            2 => Ok(Operation::Difference),
+            3 => Ok(Operation::Product),
+            4 => Ok(Operation::Quotient),
+            5 => Ok(Operation::Equal),
+            6 => Ok(Operation::Less),
+            _ => Err(UnknownOperator),
         }
     }
 }

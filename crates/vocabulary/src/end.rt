@@ -6,7 +6,7 @@ use crate::item::Fault;
 use std::fmt;
 
 // Why a take has ended.
-#[derive(Clone, Copy)]
+#[derive(Clone, Copy, PartialEq, Eq, Debug)]
 pub enum End {
     // the program is done
     Halt,
@@ -51,14 +51,7 @@ impl End {
     {
         match self {
             End::Fault(fault) => fault.code,
-            End::Halt
-            | End::NoLocation
-            | End::NoTruth
-            | End::NoNumber
-            | End::Overflow
-            | End::ZeroDivisor
-            | End::Empty
-            | End::Full => 0,
+            _ => 0,
         }
     }
 }

@@ -8,5 +8,6 @@ pub mod item;
 pub mod node;
 pub mod number;
 pub mod refusal;
+pub mod slots;
 pub mod table;
 pub mod value;

@@ -5,13 +5,11 @@ use crate::code::Operation;
 use crate::end::End;
 use crate::value::{Plain, Value};
 
-fn number(res: Option<i32>) -> Result<Plain, End>
+// A number that is there; one that is beyond 32 bits is not.
+fn narrow(res: Option<i32>) -> Result<Plain, End>
     ensures { result ≡ narrowed res }
 {
-    match res {
-        Some(number) => Ok(Plain::Number(number)),
-        None => Err(End::Overflow),
-    }
+    res.map(Plain::Number).ok_or(End::Overflow)
 }
 
 // Rounds toward zero.
@@ -21,19 +19,16 @@ fn quotient(left: i32, right: i32) -> Result<Plain, End>
     if right == 0 {
         return Err(End::ZeroDivisor);
     }
-    match left.checked_div(right) {
-        Some(quotient) => Ok(Plain::Number(quotient)),
-        None => Err(End::Overflow),
-    }
+    narrow(left.checked_div(right))
 }
 
 fn compute(operation: Operation, left: i32, right: i32) -> Result<Plain, End>
     ensures { result ≡ compute32 operation left right }
 {
     match operation {
-        Operation::Sum => number(left.checked_add(right)),
-        Operation::Difference => number(left.checked_sub(right)),
-        Operation::Product => number(left.checked_mul(right)),
+        Operation::Sum => narrow(left.checked_add(right)),
+        Operation::Difference => narrow(left.checked_sub(right)),
+        Operation::Product => narrow(left.checked_mul(right)),
         Operation::Quotient => quotient(left, right),
         Operation::Equal => Ok(Plain::Truth(left == right)),
         Operation::Less => Ok(Plain::Truth(left < right)),
@@ -44,10 +39,9 @@ fn compute(operation: Operation, left: i32, right: i32) -> Result<Plain, End>
 pub fn operate(operation: Operation, left: Value, right: Value) -> Result<Plain, End>
     ensures { result ≡ operate32 operation left right }
 {
-    match (left, right) {
-        (Value::Plain(Plain::Number(a)), Value::Plain(Plain::Number(b))) => compute(
-            operation, a, b,
-        ),
-        _ => Err(End::NoNumber),
-    }
+    let (Value::Plain(Plain::Number(left)), Value::Plain(Plain::Number(right))) = (left, right)
+    else {
+        return Err(End::NoNumber);
+    };
+    compute(operation, left, right)
 }

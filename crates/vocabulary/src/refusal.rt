@@ -1,12 +1,13 @@
 ghost use Rattle.std.specs.Prelude.{◌≡◌};
-ghost use Rattle.vocabulary.specs.Refusals.{cause_number};
+ghost use Rattle.vocabulary.specs.Refusals.{cause_number, refusal};
 
+use std::error::Error;
 use std::fmt;
 
 // Why a call is refused, in the order of the numbers 1 to 16.
-#[derive(Clone, Copy)]
+#[derive(Clone, Copy, PartialEq, Eq, Debug)]
 pub enum Cause {
-    NoProgram,
+    NoProgram = 1,
     TableLength,
     FieldRule,
     ChildNotLower,
@@ -25,7 +26,7 @@ pub enum Cause {
 }
 
 // A refusal: its cause, and the node at fault, which is 0 where no node is.
-#[derive(Clone, Copy)]
+#[derive(Clone, Copy, PartialEq, Eq, Debug)]
 pub struct Refusal {
     pub cause: Cause,
     pub node: u16,
@@ -35,24 +36,37 @@ impl Cause {
     pub fn number(self) -> u8
         ensures { result ≡ cause_number self }
     {
-        match self {
-            Cause::NoProgram => 1,
-            Cause::TableLength => 2,
-            Cause::FieldRule => 3,
-            Cause::ChildNotLower => 4,
-            Cause::ChildSort => 5,
-            Cause::NotOneParent => 6,
-            Cause::RootNotCommand => 7,
-            Cause::NameNotVisible => 8,
-            Cause::NameRole => 9,
-            Cause::Fuel => 10,
-            Cause::TakeEnded => 11,
-            Cause::MemoryShort => 12,
-            Cause::NotThisHalf => 13,
-            Cause::SheetHeader => 14,
-            Cause::NotTheTranslation => 15,
-            Cause::RampRange => 16,
-        }
+        self as u8
+    }
+
+    // A refusal for this cause, at a node.
+    pub fn at(self, node: u16) -> Refusal
+        ensures { result ≡ refusal self node }
+    {
+        Refusal { cause: self, node }
+    }
+
+    // Whether the cause is about one node of a table.
+    fn is_about_a_node(self) -> bool {
+        matches!(
+            self,
+            Cause::FieldRule
+                | Cause::ChildNotLower
+                | Cause::ChildSort
+                | Cause::NotOneParent
+                | Cause::RootNotCommand
+                | Cause::NameNotVisible
+                | Cause::NameRole
+        )
+    }
+}
+
+// A refusal that is about no node.
+impl From<Cause> for Refusal {
+    ghost from_gives = { λ cause r. r ≡ refusal cause 0 };
+
+    fn from(cause: Cause) -> Refusal {
+        cause.at(0)
     }
 }
 
@@ -89,10 +103,12 @@ impl fmt::Display for Refusal {
         let number = self.cause.number();
         let node = self.node;
         let cause = self.cause;
-        if number >= 3 && number <= 9 {
+        if cause.is_about_a_node() {
             write!(f, "refused ({number}) at node {node}: {cause}")
         } else {
             write!(f, "refused ({number}): {cause}")
         }
     }
 }
+
+impl Error for Refusal {}

@@ -1,111 +1,143 @@
-// Tables with a stated maximum, over a slice: the first `count` of `items` are in use, and the last of those is the newest.
+// A table with a stated maximum, which lies in the value itself and takes no heap. Clauses see the list of its items, the oldest first.
 // The one append serves code words, names, values, bindings, cells and frames.
-ghost use Rattle.std.specs.Prelude.{◌≡◌, ◌+◌, ◌<◌, ◌≤◌, true, false, ◌∷◌, length, take, if◌then◌else◌, MatchOption};
-ghost use Rattle.vocabulary.specs.Tables.{stack, front, found, oldest, Pushed, Added, Popped, Stored, first_of};
+ghost use Rattle.std.specs.Prelude.{◌≡◌, ◌==◌, ◌<◌, ◌≤◌, [], ◌++◌, ◌∷◌, length, reverse, take, OnSome};
+ghost use Rattle.vocabulary.specs.Appending.{Added, Pushed, Stored};
+ghost use Rattle.vocabulary.specs.Tables.{found, oldest, first_of, Popped};
 
-// Adds at the end of what is in use, unless the table is full.
-pub fn append<T: Copy>(items: &mut [T], count: &mut usize, item: T) -> bool
-    requires { count.old ≤ length items.old }
-    ensures stacked { Pushed (length items.old) (stack items.old count.old) (stack items.new count.new) item result }
-    ensures fronted { Added (length items.old) (front items.old count.old) (front items.new count.new) item result }
-    ensures counted { count.new ≡ (if result then count.old + 1 else count.old) }
-    ensures within { count.new ≤ length items.old }
-{
-    if *count < items.len() {
-        items[*count] = item;
-        *count += 1;
-        true
-    } else {
-        false
+pub use crate::slots::{append, fetch, get, in_use, pop, push_back, put, top, truncate};
+use std::marker::Model;
+
+// An append found no place free.
+#[derive(Clone, Copy, PartialEq, Eq, Debug)]
+pub struct TableFull;
+
+// A write was to a place that is not in use.
+#[derive(Clone, Copy, PartialEq, Eq, Debug)]
+pub struct NotInUse;
+
+// Fixed memory: the kit's `ArrayVec` would write a blank over each place that is given back, and so work as long as a block has
+// cells.
+#[derive(Drop)]
+pub struct Table<T, const MOST: usize> {
+    places: [T; MOST],
+    count: usize,
+}
+
+impl<T, const MOST: usize> Model for Table<T, MOST> {
+    ghost use Rattle.std.specs.Prelude.{◌≡◌, ◌≤◌, List, length, take};
+    ghost use Rattle.std.specs.Coded.{coded_list};
+
+    ghost Value = { List T };
+
+    ghost coded = { coded_list T.code };
+
+    ghost view = { λ t. take t.count t.places };
+
+    ghost invariant = { λ t. (t.count ≤ MOST) × (length t.places ≡ MOST) };
+}
+
+impl<T: Copy, const MOST: usize> Table<T, MOST> {
+    // An empty table. What no item takes holds the blank, which shows nowhere.
+    pub fn new(blank: T) -> Self
+        ensures { result ≡ [] }
+    {
+        Table {
+            places: [blank; MOST],
+            count: 0,
+        }
     }
-}
 
-// Takes the newest, if there is one.
-pub fn pop<T: Copy>(items: &[T], count: &mut usize) -> Option<T>
-    requires { count.old ≤ length items.now }
-    ensures stacked { Popped (stack items.now count.old) (stack items.now count.new) result }
-    ensures within { count.new ≤ length items.now }
-    ensures room { MatchOption result (count.new ≤ length items.now) (λ _. count.new < length items.now) }
-{
-    if *count == 0 {
-        None
-    } else {
-        *count -= 1;
-        Some(items[*count])
+    pub fn len(&self) -> usize
+        ensures value { result ≡ length self.now }
+        ensures few { result ≤ MOST }
+    {
+        self.count
     }
-}
 
-// Adds where there is room for it.
-pub fn push_back<T: Copy>(items: &mut [T], count: &mut usize, item: T)
-    requires { count.old < length items.old }
-    ensures stacked { stack items.new count.new ≡ item ∷ stack items.old count.old }
-    ensures within { count.new ≤ length items.old }
-{
-    items[*count] = item;
-    *count += 1;
-}
-
-// The element at `i` of those in use.
-pub fn get<T: Copy>(items: &[T], count: usize, i: usize) -> Option<T>
-    requires { count ≤ length items.now }
-    ensures { result ≡ found (front items.now count) i }
-{
-    if i < count { Some(items[i]) } else { None }
-}
-
-// Writes at `i`, if that is in use.
-pub fn put<T: Copy>(items: &mut [T], count: usize, i: usize, item: T) -> bool
-    requires { count ≤ length items.old }
-    ensures { Stored (front items.old count) (front items.new count) i item result }
-{
-    if i < count {
-        items[i] = item;
-        true
-    } else {
-        false
+    pub fn is_empty(&self) -> bool
+        ensures { result ≡ (length self.now == 0) }
+    {
+        self.count == 0
     }
-}
 
-// The element at `i`, if there is one.
-pub fn fetch<T: Copy>(items: &[T], i: usize) -> Option<T>
-    ensures value { result ≡ found items.now i }
-    ensures within { MatchOption result (length items.now ≤ i) (λ _. i < length items.now) }
-{
-    if i < items.len() {
-        Some(items[i])
-    } else {
-        None
+    // The items, the oldest first.
+    pub fn as_slice(&self) -> &[T]
+        ensures value { result.now ≡ self.now }
+        ensures few { length result.now ≤ MOST }
+    {
+        &self.places[..self.count]
     }
-}
 
-// Gives back what came after the first `to`.
-pub fn truncate<T: Copy>(items: &[T], count: &mut usize, to: usize)
-    requires { count.old ≤ length items.now }
-    ensures fronted { front items.now count.new ≡ take to (front items.now count.old) }
-    ensures stacked { stack items.now count.new ≡ oldest to (stack items.now count.old) }
-    ensures within { count.new ≤ count.old }
-{
-    if to < *count {
-        *count = to;
+    // Adds behind all others, where there is a place for it.
+    pub fn push(&mut self, item: T)
+        requires { length self.old < MOST }
+        ensures fronted { self.new ≡ self.old ++ item ∷ [] }
+        ensures stacked { reverse self.new ≡ item ∷ reverse self.old }
+    {
+        self.places[self.count] = item;
+        self.count += 1;
     }
-}
 
-// How many are in use.
-pub fn in_use<T: Copy>(items: &[T], count: usize) -> usize
-    requires { count ≤ length items.now }
-    ensures value { result ≡ length (front items.now count) }
-    ensures stacked { result ≡ length (stack items.now count) }
-    ensures within { result ≤ length items.now }
-{
-    let _ = items;
-    count
-}
+    // Adds behind all others, unless the table is full.
+    pub fn try_push(&mut self, item: T) -> Result<(), TableFull>
+        ensures fronted { Added MOST self.old self.new item result }
+        ensures stacked { Pushed MOST (reverse self.old) (reverse self.new) item result }
+    {
+        if self.count == MOST {
+            return Err(TableFull);
+        }
+        self.push(item);
+        Ok(())
+    }
 
-// The newest, which stays.
-pub fn top<T: Copy>(items: &[T], count: usize) -> Option<T>
-    requires { count ≤ length items.now }
-    ensures { result ≡ first_of (stack items.now count) }
-{
-    let mut left = count;
-    pop(items, &mut left)
+    // Takes the newest, if there is one.
+    pub fn pop(&mut self) -> Option<T>
+        ensures stacked { Popped (reverse self.old) (reverse self.new) result }
+        ensures room { OnSome result (length self.new < MOST) }
+    {
+        if self.count == 0 {
+            return None;
+        }
+        self.count -= 1;
+        Some(self.places[self.count])
+    }
+
+    // The newest, which stays.
+    pub fn last(&self) -> Option<T>
+        ensures { result ≡ first_of (reverse self.now) }
+    {
+        self.as_slice().last().copied()
+    }
+
+    // The item at a place, counted from the oldest.
+    pub fn get(&self, place: usize) -> Option<T>
+        ensures { result ≡ found self.now place }
+    {
+        self.as_slice().get(place).copied()
+    }
+
+    // Writes at a place that is in use.
+    pub fn set(&mut self, place: usize, item: T) -> Result<(), NotInUse>
+        ensures { Stored self.old self.new place item result }
+    {
+        if place >= self.count {
+            return Err(NotInUse);
+        }
+        self.places[place] = item;
+        Ok(())
+    }
+
+    // Gives back what came after the first `to`; nothing is written.
+    pub fn truncate(&mut self, to: usize)
+        ensures fronted { self.new ≡ take to self.old }
+        ensures stacked { reverse self.new ≡ oldest to (reverse self.old) }
+    {
+        self.count = self.count.min(to);
+    }
+
+    pub fn clear(&mut self)
+        ensures { self.new ≡ [] }
+    {
+        self.count = 0;
+    }
 }

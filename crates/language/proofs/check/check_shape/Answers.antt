@@ -3,5 +3,4 @@ use Rattle.language.proofs.Shape.{nodes-keep}
 use Rattle.language.proofs.check.check_shape.Goals as goal
 
 pub check_parents-requires : goal.check_parents-requires
-check_parents-requires c =
-    record { below = λ n l. (nodes-keep c.args.nodes.now (sym c.in_ok-check_nodes.ensures) n l).below; some = c.requires.some; few = c.requires.few }
+check_parents-requires c = λ n l. (nodes-keep c.args.nodes.now (sym (c.in_ok-check_nodes.ensures)) n l).below

@@ -1,11 +1,21 @@
-use Rattle.std.proofs.Common.{◌<◌, length, set, ap, ◌∙◌, arith}
-use Rattle.language.proofs.Filling.{filled_none, filled_more}
+use Rattle.std.proofs.Common.{◌≡◌, ◌/◌, ◌++◌, ◌∷◌, [], length, get_or, sym, ap, ◌∙◌, lit<, arith}
+use Rattle.language.specs.Table.{node_at}
+use Rattle.language.proofs.Filling.{length-nodes, fitting-count, nodes_none, nodes_more}
 use Rattle.language.proofs.read.read_nodes.Goals as goal
 
-pub loop-n-init : goal.loop-n-init
-loop-n-init c = filled_none c.args.table.now c.args.nodes.now
+pub loop-bytes-init : goal.loop-bytes-init
+loop-bytes-init c = c.new-nodes.ensures ∙ sym (nodes_none c.args.table.now)
 
-pub loop-n-preserved : goal.loop-n-preserved
-loop-n-preserved c =
-    let within : c.loop-n.n < length c.args.nodes.now = omega arith in
-    ap (set c.loop-n.nodes c.loop-n.n) c.node_at.ensures ∙ filled_more c.args.table.now c.args.nodes.now c.loop-n.nodes c.loop-n.n within c.loop-n.invariant
+pub push-requires : goal.push-requires
+push-requires c =
+    let table = c.args.table.now in
+    let size = fitting-count table (sym c.fits.ensures ∙ c.if-not-fits.false) in
+    let n : length c.loop-bytes.nodes ≡ c.loop-bytes.bytes-index = ap length c.loop-bytes.invariant ∙ length-nodes table c.loop-bytes.bytes-index in
+    (lit< tt, omega (arith, length-nodes table (length table / 8)))
+
+pub loop-bytes-preserved : goal.loop-bytes-preserved
+loop-bytes-preserved c =
+    let table = c.args.table.now in
+    let i = c.loop-bytes.bytes-index in
+    let e = c.read_node.ensures ∙ ap (λ cs. node_at (get_or cs i []) 0) c.as_chunks.ensures.front in
+    c.push.ensures.fronted ∙ ap (λ d. c.loop-bytes.nodes ++ d ∷ []) e ∙ nodes_more table (length table / 8) i c.loop-bytes.nodes (omega arith) c.loop-bytes.invariant

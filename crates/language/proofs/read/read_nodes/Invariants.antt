@@ -1,6 +1,6 @@
-use Rattle.std.proofs.Common.{◌≡◌, ◌++◌, drop}
+use Rattle.std.proofs.Common.{◌≡◌}
 use Rattle.language.specs.Table.{nodes_in}
 use Rattle.language.proofs.read.read_nodes.Given as goal
 
-abbrev pub invariant-loop-n : goal.invariant-loop-n
-invariant-loop-n l = l.nodes ≡ nodes_in l.table l.n ++ drop l.n l.initial.nodes
+abbrev pub invariant-loop-bytes : goal.invariant-loop-bytes
+invariant-loop-bytes l = l.nodes ≡ nodes_in l.table l.bytes-index

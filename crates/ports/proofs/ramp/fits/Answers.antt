@@ -1,30 +1,23 @@
-use Rattle.std.proofs.Common.{◌≡◌, ◌-◌, ◌+ℤ◌, sym, ap, ◌∙◌, arith, w32, SFits, rules}
+use Rattle.std.proofs.Common.{◌≡◌, ◌-◌, pos, ◌+ℤ◌, ◌*ℤ◌, sym, ap, ◌∙◌, w32, w64, SFits, rules}
 use Rattle.std.proofs.lemmas.Int.{to_z-of_z}
-use Rattle.ports.specs.Ramps.{ramp_fits}
-use Rattle.ports.proofs.Ramped.{fits_of_bits, bits_of_fits, fits-few, fits_on, fits_off}
+use Rattle.vocabulary.specs.Numbers.{within32}
+use Rattle.ports.specs.Ramps.{rung}
+use Rattle.ports.proofs.Ramped.{by_last, wide, decided}
 use Rattle.ports.proofs.ramp.fits.Goals as goal
-
-pub returns-in-None : goal.returns-in-None
-returns-in-None c =
-    let s : SFits w32 c.args.step = c.ranges.step in
-    let a : SFits w32 c.loop-left.at = search rules in
-    let inv = fits_of_bits c.args.start c.args.step c.loop-left.at _ c.args.count c.loop-left.left c.ranges.start s c.loop-left.at-is c.loop-left.invariant in
-    let off : SFits w32 (c.loop-left.at +ℤ c.args.step) → ⊥ = simp (to_z-of_z, c.loop-left.at-is) at c.in-None.ensures in
-    sym (fits_off c.loop-left.at c.args.step c.loop-left.left (omega arith) a off) ∙ inv
-
-pub loop-left-preserved : goal.loop-left-preserved
-loop-left-preserved c =
-    let s : SFits w32 c.args.step = c.ranges.step in
-    let b : SFits w32 c.args.start = c.ranges.start in
-    let a : SFits w32 c.loop-left.at = search rules in
-    let inv = fits_of_bits c.args.start c.args.step c.loop-left.at _ c.args.count c.loop-left.left b s c.loop-left.at-is c.loop-left.invariant in
-    let on : c.in-Some.next ≡ c.loop-left.at +ℤ c.args.step = simp (to_z-of_z, c.loop-left.at-is) at c.in-Some.ensures.1 in
-    let n : SFits w32 c.in-Some.next = search rules in
-    let e : ramp_fits c.in-Some.next c.args.step (c.loop-left.left - 1) ≡ ramp_fits c.args.start c.args.step c.args.count = ap (λ z. ramp_fits z c.args.step (c.loop-left.left - 1)) on ∙ sym (fits_on c.loop-left.at c.args.step c.loop-left.left (omega arith) a) ∙ inv in
-    bits_of_fits c.args.start c.args.step c.in-Some.next c.args.count (c.loop-left.left - 1) b s n e
 
 pub returns : goal.returns
 returns c =
-    let a : SFits w32 c.loop-left.at = search rules in
-    let inv = fits_of_bits c.args.start c.args.step c.loop-left.at _ c.args.count c.loop-left.left c.ranges.start c.ranges.step c.loop-left.at-is c.loop-left.invariant in
-    sym (fits-few c.loop-left.at c.args.step c.loop-left.left c.loop-left-test.false a) ∙ inv
+    let s : SFits w32 c.args.start = c.ranges.start in
+    let t : SFits w32 c.args.step = c.ranges.step in
+    let a : c.from.result ≡ c.args.start = c.from.ensures ∙ to_z-of_z w32 c.args.start s in
+    let b : c.from-3.result ≡ c.args.step = c.from-3.ensures ∙ to_z-of_z w32 c.args.step t in
+    let n : c.from-2.result ≡ pos (c.args.count - 1) = c.from-2.ensures ∙ ap pos c.saturating_sub-steps.ensures in
+    let last : c.from.result +ℤ (c.from-2.result *ℤ c.from-3.result) ≡ rung c.args.start c.args.step (c.args.count - 1) = cc in
+    let w = wide c.args.start c.args.step (c.args.count - 1) s t (search rules) in
+    let fa : SFits w64 c.from.result = search rules in
+    let fn : SFits w64 c.from-2.result = search rules in
+    let fs : SFits w64 c.from-3.result = search rules in
+    let fp : SFits w64 (c.from-2.result *ℤ c.from-3.result) = rw (n, b) w.0 in
+    let fl : SFits w64 (c.from.result +ℤ (c.from-2.result *ℤ c.from-3.result)) = rw last w.1 in
+    let d = simp to_z-of_z at c.try_from.ensures in
+    c.is_ok.ensures.value ∙ decided c.try_from.result (c.from.result +ℤ (c.from-2.result *ℤ c.from-3.result)) _ d ∙ ap within32 last ∙ sym (by_last c.args.start c.args.step c.args.count s)
