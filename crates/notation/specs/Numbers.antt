@@ -2,7 +2,6 @@
 use Rattle.std.specs.Prelude.{◌≡◌, ℕ, ◌+◌, ◌<◌, ◌≤◌, min, cond, List, [], ◌∷◌, ◌++◌, length, drop, ℤ, pos, neg_ℤ}
 use Rattle.std.specs.Int.{IsOutOfRange}
 use Rattle.std.specs.Str.Parse.{AllDigits, IsNumeral, digits_value, starts_with_minus}
-use Rattle.notation.specs.declared.error.Shown.{Shown}
 use Rattle.notation.specs.declared.error.WordError.{WordError}
 use Rattle.notation.specs.declared.error.WordError.TheVariants.{Missing, NoDigits, NoDigit, OutOfRange, NoHexDigit, OddDigits}
 

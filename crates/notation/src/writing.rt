@@ -9,17 +9,7 @@ use crate::plan::{CallPlan, FeedPlan, Line, StripPlan};
 use crate::trace::AsWord;
 use ports::trace::Record;
 use std::fmt;
-use vocabulary::item::{Fault, Item};
-
-// What was recorded, as it waits in a feed.
-fn item(record: Record) -> Item
-    ensures { result ≡ item_of «record» }
-{
-    match record.code {
-        0 => Item::Reading(record.reading),
-        code => Item::Fault(Fault { code }),
-    }
-}
+use vocabulary::item::Item;
 
 // Records that print as the words of their items, each behind a blank.
 #[derive(Clone, Copy)]
@@ -30,7 +20,7 @@ impl fmt::Display for Items<'_> {
 
     fn fmt<W: fmt::Write>(&self, f: &mut fmt::Formatter<W>) -> fmt::Result {
         for record in self.0 {
-            let word = AsWord(item(*record));
+            let word = AsWord(Item::from(*record));
             write!(f, " {word}")?;
         }
         Ok(())
