@@ -1,2 +1,4 @@
 pub mod Answers
+pub mod Carried
 pub mod Leaves
+pub mod Plans
