@@ -118,15 +118,32 @@ pub fn push_items(text: &mut String, items: &[Item]) -> Result<(), AllocError>
     push_each(text, items, " ", AsWord, "")
 }
 
+// What stands before a byte of a line: a blank before the first.
+fn before(begins: bool) -> &'static str
+    ensures { result.now ≡ (if begins then 32 ∷ [] else []) }
+{
+    if begins { " " } else { "" }
+}
+
+// A byte of a line, and nothing for the byte that ends it.
+fn push_byte(text: &mut String, begins: bool, byte: u8) -> Result<(), AllocError>
+    ensures { OnOk result (string_bytes text.new ≡ string_bytes text.old ++ byte_text begins byte) }
+{
+    text.push_str(before(begins))?;
+    if byte != b'\n' {
+        text.push(char::from(byte))?;
+    }
+    Ok(())
+}
+
 // The lines of a text strip, each behind a blank.
 fn push_lines(text: &mut String, lines: &[u8]) -> Result<(), AllocError>
     ensures { OnOk result (string_bytes text.new ≡ string_bytes text.old ++ lines_text true lines.now) }
 {
-    for line in lines.split_inclusive(|byte| *byte == b'\n') {
-        text.push_str(" ")?;
-        for byte in line.strip_suffix(b"\n").unwrap_or(line) {
-            text.push(char::from(*byte))?;
-        }
+    let mut begins = true;
+    for byte in lines {
+        push_byte(text, begins, *byte)?;
+        begins = *byte == b'\n';
     }
     Ok(())
 }
