@@ -1,6 +1,6 @@
 -- Environments and dump read off the tables stay the same lists where the tables grow or are given back, since each entry's
 -- environment is older than the entry (`linked`) and each frame's is among the bindings in use with it (`nested`).
-use Rattle.std.proofs.Common.{◌≡◌, ℕ, zero, suc, ◌+◌, ◌-◌, ◌<◌, ◌≤◌, true, false, cond, ◌&&◌, eqb, leb, List, [], ◌∷◌, ◌++◌, reverse, length, drop, Some, None, Option, Ok, Err, Result, is_ok, sym, refl, ap, ◌∙◌, subst, inl, inr, le_of_suc-le-suc, not-suc-le-zero, add-one, arith}
+use Rattle.std.proofs.Common.{◌≡◌, ℕ, zero, suc, ◌-◌, ◌<◌, ◌≤◌, true, false, cond, ◌&&◌, eqb, leb, List, [], ◌∷◌, ◌++◌, reverse, length, drop, Some, None, Option, Ok, Err, Result, is_ok, sym, refl, ap, ◌∙◌, subst, inl, inr, le_of_suc-le-suc, not-suc-le-zero, add-one, arith}
 use Rattle.std.proofs.lemmas.List.{length-drop, length-append, reverse-append, reverse-reverse, length-reverse}
 use Rattle.std.proofs.lemmas.Bool.{leb-true, le-leb, eq-eqb, ne_eqb, and_parts, and_from, cases_order}
 use Rattle.vocabulary.proofs.Tabled.{found_none}
@@ -190,10 +190,8 @@ linked_more es ds c q h l =
     let z : reverse ds ≡ c ∷ reverse es = ap reverse q ∙ reverse-append es (c ∷ []) in
     rw z (linked-new c (reverse es) (omega arith) l)
 
-pub among_more : (es ds : List Entry) (c : Entry) (k : ℕ) → ds ≡ es ++ (c ∷ []) → k ≡ length es → suc k ≤ length ds
-among_more es ds c k q z =
-    let n : length ds ≡ length es + 1 = ap length q ∙ length-append es (c ∷ []) in
-    omega arith
+pub one_more : (es ds : List Entry) (c : Entry) → ds ≡ es ++ (c ∷ []) → length ds ≡ suc (length es)
+one_more es ds c q = ap length q ∙ length-append es (c ∷ []) ∙ add-one (length es)
 
 pub record Grown (es ds : List Entry) (fs : List Frame) (c : Entry) (e : ℕ) : Type 0 where
   pub nests : nested (length ds) e fs ≡ true
@@ -205,7 +203,7 @@ pub grown : (es ds : List Entry) (fs : List Frame) (c : Entry) (e : ℕ) → ds 
 grown es ds fs c e q z h =
     let len = length-reverse es in
     let u : reverse ds ≡ c ∷ reverse es = ap reverse q ∙ reverse-append es (c ∷ []) in
-    let n : length ds ≡ suc (length es) = ap length q ∙ length-append es (c ∷ []) ∙ add-one (length es) in
+    let n : length ds ≡ suc (length es) = one_more es ds c q in
     record {
       nests = nested_on (length es) (length ds) (reach c.below) e fs (omega arith) (omega arith) h;
       counts = n;
@@ -258,16 +256,10 @@ back es ds fs gs f e p q h =
 
 -- another environment among the same bindings
 
-pub nested_in : (es ds : List Entry) (e d d' : ℕ) (fs : List Frame) → ds ≡ es → d' ≡ d → d ≤ length (reverse es) → nested (length es) e fs ≡ true → nested (length ds) d' fs ≡ true
-nested_in es ds e d d' fs q z k h =
-    let len = length-reverse es in
-    rw (q, z) (nested_on (length es) (length es) e d fs (omega arith) (omega arith) h)
+pub nested_in : (es ds : List Entry) (e d : ℕ) (fs : List Frame) → ds ≡ es → d ≤ length ds → nested (length es) e fs ≡ true → nested (length ds) d fs ≡ true
+nested_in es ds e d fs q k h = nested_on (length es) (length ds) e d fs (rw q (omega arith)) k h
 
--- empty tables
-
-pub nested_none : (es : List Entry) (e : Option ℕ) (fs : List Frame) → es ≡ [] → e ≡ None → fs ≡ [] → nested (length es) (reach e) (reverse fs) ≡ true
-unfolding nested
-nested_none es e fs p q s = rw (p, q, s) refl
+-- the dump
 
 pub chains_none : (t : List Entry) (fs : List Frame) → fs ≡ [] → chains t fs ≡ []
 unfolding chains

@@ -1,6 +1,6 @@
 -- What the machine of lists does in the instructions that change the links of the tables, said of the lists that the tables
 -- show before and after; and a step from its instruction.
-use Rattle.std.proofs.Common.{◌≡◌, ℕ, suc, ◌<◌, ◌≤◌, Bool, true, false, ltb, List, [], ◌∷◌, length, reverse, drop, Some, Option, Ok, Err, Result, sym, refl, ap, ◌∙◌, subst, arith}
+use Rattle.std.proofs.Common.{◌≡◌, ℕ, suc, ◌<◌, ◌≤◌, Bool, true, false, ltb, List, ◌∷◌, length, reverse, drop, Some, Option, Ok, Err, Result, sym, refl, ap, ◌∙◌, arith}
 use Rattle.std.proofs.lemmas.Bool.{lt-ltb, le-ltb}
 use Rattle.vocabulary.specs.declared.table.TableFull.{TableFull}
 use Rattle.vocabulary.specs.Appending.{Pushed}
@@ -16,21 +16,15 @@ use Rattle.machine.specs.declared.tables.Frame.{Frame}
 use Rattle.machine.specs.declared.tables.Stop.{Stop}
 use Rattle.machine.specs.declared.tables.Stop.TheVariants.{Ended, Stuck}
 use Rattle.machine.specs.Instructions.{guard, bind_as, dumped, under, goto, invoke}
-use Rattle.machine.specs.Machine.{blank, perform, obey, step}
+use Rattle.machine.specs.Machine.{perform, step}
 use Rattle.machine.specs.State.{Core, core, Turn, Ports, noted, joined}
 use Rattle.machine.specs.State.Moved.{moved}
 use Rattle.machine.specs.State.State.{running}
 use Rattle.machine.specs.State.Dump.{frame}
 use Rattle.machine.specs.State.Turn.{goes, stuck}
-use Rattle.machine.specs.Seen.{Said, after, stands, stopped}
+use Rattle.machine.specs.Seen.{after, stands, stopped}
 use Rattle.machine.specs.Links.{reach, chain, chains, nested}
 use Rattle.machine.proofs.Linking.{Grown, chains-length, chains_more, nested-enter, nested_env}
-
--- a machine with nothing on any table
-pub blank_seen : (vs : List Value) (cells : List Plain) (es : List Entry) (e : Option ℕ) (fs : List Frame) → vs ≡ [] → cells ≡ [] → es ≡ [] → fs ≡ [] →
-    core 0 (reverse vs) (chain (reverse es) (reach e)) (length es) (chains (reverse es) (reverse fs)) cells ≡ blank
-unfolding chain chains
-blank_seen vs cells es e fs p q s u = rw (p, q, s, u) refl
 
 -- a binding is added; the rest stays
 pub bind_goes : (at : ℕ) (vals : List Value) (es ds : List Entry) (fs : List Frame) (cells : List Plain) (c : Entry) (e : ℕ) → length es < 512 → Grown es ds fs c e →

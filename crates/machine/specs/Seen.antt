@@ -9,7 +9,7 @@ use Rattle.machine.specs.declared.tables.Stop.TheVariants.{Ended, Stuck}
 use Rattle.machine.specs.declared.tables.Status.{Status}
 use Rattle.machine.specs.declared.tables.Status.TheVariants.{Running, Halted, Broken}
 use Rattle.machine.specs.Links.{chain, chains, reach}
-use Rattle.machine.specs.State.{Core, core, Dump, Turn, Ports, ports, State, joined}
+use Rattle.machine.specs.State.{Core, core, Turn, Ports, ports, State, joined}
 use Rattle.machine.specs.State.Dump.{frame}
 use Rattle.machine.specs.State.State.{running, halted, broken}
 use Rattle.machine.specs.State.Turn.{goes, ends, stuck}

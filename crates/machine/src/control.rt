@@ -30,6 +30,7 @@ impl Machine {
     }
 
     // The body runs in the environment below its own entry, not in the caller's.
+    #[tactic(auto, using(crate::proofs::Linking::nested_in))]
     pub(crate) fn call(&mut self, newer: u16) -> Result<(), Stop>
         ensures { after result (seen self.new) ≡ call 512 newer (seen self.old).values (seen self.old) }
     {

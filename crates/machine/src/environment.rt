@@ -18,6 +18,7 @@ pub struct Bindings {
 
 impl Bindings {
     // No binding.
+    #[tactic(auto, unfolding(crate::specs::Links::linked))]
     pub(crate) fn new() -> Bindings
         ensures entries { result.entries ≡ [] }
         ensures env { result.env ≡ None }
@@ -33,6 +34,7 @@ impl Bindings {
     }
 
     // As if new.
+    #[tactic(auto, unfolding(crate::specs::Links::linked))]
     pub(crate) fn clear(&mut self)
         ensures entries { self.new.entries ≡ [] }
         ensures env { self.new.env ≡ None }
@@ -42,6 +44,7 @@ impl Bindings {
     }
 
     // The newest entry of an environment.
+    #[tactic(auto, using(crate::proofs::Linking::chain_none, crate::proofs::Linking::entry_some))]
     fn newest(&self, env: Option<u16>) -> Option<Entry>
         ensures { Opened (reverse self.now.entries) (reach env) result }
     {
@@ -49,6 +52,7 @@ impl Bindings {
     }
 
     // The environment below the newest entry of an environment; below none it is empty.
+    #[tactic(auto, using(crate::proofs::Linking::outer_at, crate::proofs::Linking::outer_none))]
     fn outer(&self, env: Option<u16>) -> Option<u16>
         ensures { chain (reverse self.now.entries) (reach result) ≡ drop 1 (chain (reverse self.now.entries) (reach env)) }
     {
@@ -59,14 +63,11 @@ impl Bindings {
     fn behind(&self, newer: u16) -> Option<u16>
         ensures { chain (reverse self.now.entries) (reach result) ≡ drop newer (chain (reverse self.now.entries) (reach self.now.env)) }
     {
-        let mut env = self.env;
-        for passed in 0..newer {
-            env = self.outer(env);
-        }
-        env
+        (0..newer).fold(self.env, |env, _| self.outer(env))
     }
 
     // The entry with `newer` newer ones in the present environment.
+    #[tactic(auto, using(crate::proofs::Linking::find_at))]
     pub(crate) fn find(&self, newer: u16) -> Option<Entry>
         ensures { Found (reverse self.now.entries) (reach self.now.env) newer result }
     {
@@ -74,6 +75,7 @@ impl Bindings {
     }
 
     // A new binding before the present environment.
+    #[tactic(auto, using(crate::proofs::Linking::linked_more, crate::proofs::Linking::one_more))]
     pub(crate) fn bind(&mut self, what: Bound) -> Result<(), TableFull>
         ensures added { Added 512 self.old.entries self.new.entries (record { what = what; below = self.old.env }) result }
         ensures env { self.new.env ≡ (if is_ok result then Some (length self.old.entries) else self.old.env) }
@@ -108,6 +110,7 @@ impl Bindings {
     }
 
     // Gives back the bindings made since a frame, and its environment is the present one again.
+    #[tactic(auto, using(crate::proofs::Linking::linked_less, crate::proofs::Linking::among_less))]
     pub(crate) fn take_back(&mut self, frame: Frame)
         requires bound { frame.bound ≤ length self.old.entries }
         requires env { reach frame.env ≤ frame.bound }

@@ -10,6 +10,7 @@ use vocabulary::value::{Plain, Value};
 
 impl Machine {
     // Nothing on any table, at position 0.
+    #[tactic(auto, unfolding(crate::specs::Links::chain, crate::specs::Links::chains, crate::specs::Links::nested))]
     pub fn new() -> Machine
         ensures { seen result ≡ blank }
     {
@@ -29,6 +30,7 @@ impl Machine {
     }
 
     // As if new, with no table written.
+    #[tactic(auto, unfolding(crate::specs::Links::chain, crate::specs::Links::chains, crate::specs::Links::nested))]
     pub fn restart(&mut self)
         ensures { seen self.new ≡ blank }
     {

@@ -23,6 +23,7 @@ impl Machine {
     }
 
     // A new binding before the present environment.
+    #[tactic(auto, using(crate::proofs::Linking::nested_more))]
     pub(crate) fn bind_as(&mut self, what: Bound) -> Result<(), Stop>
         ensures { after result (seen self.new) ≡ bind_as 512 what (seen self.old) }
     {
@@ -51,6 +52,7 @@ impl Machine {
     }
 
     // Puts environment and bindings in use on the dump, with the number that the instruction adds.
+    #[tactic(auto, using(crate::proofs::Turning::dump_goes, crate::proofs::Turning::dump_full))]
     pub(crate) fn dump(&mut self, other: usize) -> Result<(), Stop>
         ensures dumped { after result (seen self.new) ≡ guard (nat_lt (length (seen self.old).dump) 512) (goes (dumped other (seen self.old))) }
         ensures bindings { self.new.bindings ≡ self.old.bindings }
@@ -61,6 +63,7 @@ impl Machine {
     }
 
     // Takes environment and bindings in use off the dump, and answers the number that was added.
+    #[tactic(auto, using(crate::proofs::Linking::back, crate::proofs::Linking::chains_none))]
     pub(crate) fn take_back(&mut self) -> Result<usize, Stop>
         ensures { TakenBack (seen self.old) (seen self.new) result }
     {

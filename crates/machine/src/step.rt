@@ -15,7 +15,7 @@ use vocabulary::value::{Plain, Value};
 
 impl Stop {
     // How the machine stands after a stop at a node.
-    pub fn at(self, node: u16) -> Status
+    pub(crate) fn at(self, node: u16) -> Status
         ensures { result ≡ stopped self node }
     {
         match self {

@@ -26,8 +26,9 @@ pub enum Call<'a> {
     Report,
 }
 
-// The answer to a call: load, open and rewind answer only that they are done, run and report how the take stands.
-#[derive(Clone, Copy)]
+// The answer to a call: load, open and rewind answer only that they are done, run and report how the take stands. An enum of its
+// own, and no `Result<Option<Report>, Refusal>`, since it is told to people by its own Display.
+#[derive(Clone, Copy, PartialEq, Eq, Debug)]
 pub enum Answer {
     Done,
     Told(Report),
@@ -44,25 +45,30 @@ impl fmt::Display for Answer {
     }
 }
 
-fn done(res: Result<(), Refusal>) -> Answer
-    ensures { result ≡ done_answer res }
-{
-    match res {
-        Ok(()) => Answer::Done,
-        Err(refusal) => Answer::Refused(refusal),
+impl From<Result<(), Refusal>> for Answer {
+    ghost from_gives = { λ res answer. answer ≡ done_answer res };
+
+    fn from(res: Result<(), Refusal>) -> Answer {
+        match res {
+            Ok(()) => Answer::Done,
+            Err(refusal) => Answer::Refused(refusal),
+        }
     }
 }
 
-fn told(res: Result<Report, Refusal>) -> Answer
-    ensures { result ≡ told_answer res }
-{
-    match res {
-        Ok(report) => Answer::Told(report),
-        Err(refusal) => Answer::Refused(refusal),
+impl From<Result<Report, Refusal>> for Answer {
+    ghost from_gives = { λ res answer. answer ≡ told_answer res };
+
+    fn from(res: Result<Report, Refusal>) -> Answer {
+        match res {
+            Ok(report) => Answer::Told(report),
+            Err(refusal) => Answer::Refused(refusal),
+        }
     }
 }
 
-// Carries out one call.
+// Carries out one call. Feed and strip stay two parameters: callers hold them apart, and each call of a struct of both would make it
+// and take it apart again.
 fn act<F: Feed, S: Strip>(
     sequencer: &mut Sequencer,
     call: &Call,
@@ -73,11 +79,11 @@ fn act<F: Feed, S: Strip>(
     ensures kept { S.Strip.keeps strip.old strip.new }
 {
     match call {
-        Call::Load(table) => done(sequencer.load(table)),
-        Call::Open(sheet) => done(sequencer.open(sheet)),
-        Call::Rewind => done(sequencer.rewind()),
-        Call::Run(fuel) => told(sequencer.run(*fuel, feed, strip)),
-        Call::Report => told(sequencer.report()),
+        Call::Load(table) => sequencer.load(table).into(),
+        Call::Open(sheet) => sequencer.open(sheet).into(),
+        Call::Rewind => sequencer.rewind().into(),
+        Call::Run(fuel) => sequencer.run(*fuel, feed, strip).into(),
+        Call::Report => sequencer.report().into(),
     }
 }
 

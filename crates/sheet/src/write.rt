@@ -9,6 +9,8 @@ pub fn write_entries<T: Entry>(tail: &mut [u8], entries: &[T])
     requires { 8 * length entries.now ≤ length tail.old }
     ensures { tail.new ≡ encoded T.Entry.encoding entries.now ++ drop (8 * length entries.now) tail.old }
 {
+    // By place: over `as_chunks_mut`, and over a rest cut by `split_first_chunk_mut`, the proof didn't close, since nothing is known of
+    // the whole once the parts are given back.
     for (i, entry) in entries.iter().enumerate() {
         let bytes = entry.to_bytes();
         tail[ENTRY * i..ENTRY * i + ENTRY].copy_from_slice(&bytes);

@@ -1,46 +1,51 @@
--- The search for the newest entry of a name, from the newest entry down. Its invariant: what is sought is the newest of the
--- entries not yet seen, with those seen counted as newer.
-use Rattle.std.proofs.Common.{◌≡◌, ℕ, suc, ◌+◌, ◌-◌, ◌≤◌, true, false, eqb, List, length, get_or, Some, None, Option, sym, refl, ap, ◌∙◌, add-zero, arith}
+-- The search for the newest entry of a name, over the entries with the number of newer ones beside each: what is sought is the newest
+-- of those not yet seen.
+use Rattle.std.proofs.Common.{◌≡◌, ℕ, suc, ◌+◌, ◌<◌, true, false, eqb, List, [], ◌∷◌, length, get_or, drop, Some, None, Option, sym, refl, ap, ◌∙◌, add-zero, zero-add, arith}
+use Rattle.std.specs.List.{enumerate_from}
 use Rattle.std.proofs.lemmas.Bool.{eq-eqb, ne_eqb}
-use Rattle.vocabulary.specs.Tables.{stack}
-use Rattle.vocabulary.proofs.Tabled.{stack_pop, stack_none}
+use Rattle.std.proofs.lemmas.List.{at_drop_more, at_drop_all}
 use Rattle.language.specs.declared.name.Entry.{Entry}
 use Rattle.language.specs.declared.name.Place.{Place}
 use Rattle.language.specs.Scope.{place_of, place, later}
 
+-- the first entry of a name, with the number beside it
+abbrev pub place_in : List (ℕ × Entry) → ℕ → Option Place
+place_in [] x = None
+place_in (e ∷ es) x = elim (eqb e.1.name x) [ true ↦ Some (place e.0 e.1.role) | false ↦ place_in es x ]
+
 -- the same place, counted with k newer entries more
-abbrev pub past : ℕ → Option Place → Option Place
+abbrev past : ℕ → Option Place → Option Place
 past k None = None
 past k (Some p) = Some (place (p.newer + k) p.role)
 
-pub past_none : (o : Option Place) → past 0 o ≡ o
+past_none : (o : Option Place) → past 0 o ≡ o
 past_none None = refl
 past_none (Some p) = simp add-zero
 
-past-later : (k m : ℕ) (o : Option Place) → m ≡ k + 1 → past k (later o) ≡ past m o
-past-later k m None e = refl
-past-later k m (Some p) e = let h : suc p.newer + k ≡ p.newer + m = omega arith in simp h
+past-later : (k : ℕ) (o : Option Place) → past (k + 1) o ≡ past k (later o)
+past-later k None = refl
+past-later k (Some p) = let h : p.newer + (k + 1) ≡ suc p.newer + k = omega arith in simp h
 
--- one entry further down: it has the name, or the search goes on
-module _ (x : ℕ) (es : List Entry) (n i j : ℕ) (o : Option Place) (d : Entry) (e : i ≡ j + 1) (le : i ≤ n) (has : n ≤ length es) (so : o ≡ past (n - i) (place_of (stack es i) x)) where
-  stepped : o ≡ past (n - i) (elim (eqb (get_or es j d).name x) [ true ↦ Some (place 0 (get_or es j d).role) | false ↦ later (place_of (stack es j) x) ])
-  stepped =
-      let k : i - 1 ≡ j = omega arith in
-      so ∙ ap (λ (s : List Entry). past (n - i) (place_of s x)) (stack_pop es i d (omega arith) (omega arith)) ∙ simp k
+counted : (k : ℕ) (sc : List Entry) (x : ℕ) → place_in (enumerate_from k sc) x ≡ past k (place_of sc x)
+counted k [] x = refl
+counted k (e ∷ sc) x =
+    elim (eqb e.name x) as (λ b. (elim b [ true ↦ Some (place k e.role) | false ↦ place_in (enumerate_from (k + 1) sc) x ]) ≡ past k (elim b [ true ↦ Some (place 0 e.role) | false ↦ later (place_of sc x) ])) [
+      true ↦ ap (λ n. Some (place n e.role)) (sym (zero-add k))
+    | false ↦ counted (k + 1) sc x ∙ past-later k (place_of sc x)
+    ]
 
-  pub found_here : (get_or es j d).name ≡ x → Some (place (n - 1 - j) (get_or es j d).role) ≡ o
-  found_here h =
-      let t : eqb (get_or es j d).name x ≡ true = eq-eqb _ _ h in
-      let k : n - 1 - j ≡ 0 + (n - i) = omega arith in
-      sym (stepped ∙ simp t (simp k refl))
+pub found_start : (sc : List Entry) (x : ℕ) → place_of sc x ≡ place_in (enumerate_from 0 sc) x
+found_start sc x = sym (counted 0 sc x ∙ past_none (place_of sc x))
 
-  pub not_here : ((get_or es j d).name ≡ x → ⊥) → o ≡ past (n - j) (place_of (stack es j) x)
-  not_here h =
-      let t : eqb (get_or es j d).name x ≡ false = ne_eqb _ _ h in
-      stepped ∙ simp t (past-later (n - i) (n - j) _ (omega arith))
+module _ (es : List (ℕ × Entry)) (n x : ℕ) (o : Option Place) (e : ℕ × Entry) (so : o ≡ place_in (drop n es) x) (h : n < length es) (i : e ≡ get_or es n e) where
+  stepped : o ≡ elim (eqb e.1.name x) [ true ↦ Some (place e.0 e.1.role) | false ↦ place_in (drop (n + 1) es) x ]
+  stepped = so ∙ at_drop_more (λ (es : List (ℕ × Entry)). place_in es x) es n e h ∙ ap (λ (e : ℕ × Entry). place_in (e ∷ drop (n + 1) es) x) (sym i)
 
-pub found_none : (x : ℕ) (es : List Entry) (n i : ℕ) (o : Option Place) → i ≡ 0 → o ≡ past (n - i) (place_of (stack es i) x) → None ≡ o
-found_none x es n i o e so = sym (so ∙ simp (e, stack_none) refl)
+  pub found_here : e.1.name ≡ x → Some (place e.0 e.1.role) ≡ o
+  found_here g = let t : eqb e.1.name x ≡ true = eq-eqb _ _ g in sym (stepped ∙ simp t)
 
-pub found_start : (x : ℕ) (es : List Entry) (n : ℕ) → place_of (stack es n) x ≡ past (n - n) (place_of (stack es n) x)
-found_start x es n = let z : n - n ≡ 0 = omega arith in simp z (sym (past_none (place_of (stack es n) x)))
+  pub not_here : (e.1.name ≡ x → ⊥) → o ≡ place_in (drop (n + 1) es) x
+  not_here g = let t : eqb e.1.name x ≡ false = ne_eqb _ _ g in stepped ∙ simp t
+
+pub found_none : (es : List (ℕ × Entry)) (n x : ℕ) (o : Option Place) → o ≡ place_in (drop n es) x → n ≡ length es → None ≡ o
+found_none es n x o so e = sym (so ∙ at_drop_all (λ (es : List (ℕ × Entry)). place_in es x) es n (omega arith))

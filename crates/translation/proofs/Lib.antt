@@ -2,6 +2,7 @@ pub mod Finding
 pub mod Scopes
 pub mod Forms
 pub mod Writing
+pub mod Parts
 pub mod Expressions
 pub mod Commands
 pub mod Declarations

@@ -1,38 +1,40 @@
 -- What is visible, over calls and marks.
-use Rattle.std.proofs.Common.{◌≡◌, ℕ, suc, ◌+◌, ◌-◌, List, ◌∷◌, length, drop, sym, refl, ap, ◌∙◌, arith}
-use Rattle.vocabulary.specs.Tables.{stack, oldest}
-use Rattle.vocabulary.proofs.Tabled.{stack-cut}
-use Rattle.translation.specs.declared.tables.Scope.{Scope}
-use Rattle.translation.specs.Held.{visible, Older, Same}
+use Rattle.std.proofs.Common.{◌≡◌, ℕ, ◌+◌, ◌≤◌, List, [], ◌∷◌, ◌++◌, length, take, reverse, sym, ap, ◌∙◌, subst, arith, length-append}
+use Rattle.std.proofs.lemmas.List.{take_all, take-take, take-append-le}
+use Rattle.language.specs.declared.name.Entry.{Entry}
+use Rattle.translation.specs.declared.scope.Scope.{Scope}
+use Rattle.translation.specs.declared.translator.Translator.{Translator}
+use Rattle.translation.specs.Held.{visible, Older, Bound}
+use Rattle.translation.specs.Translated.{Restored}
 
--- below one entry more stands what stood there before
-pub stack-below : {X : Type 0} (xs s : List X) (x : X) (n m : ℕ) → stack xs m ≡ x ∷ s → m ≡ n + 1 → length s ≡ n → stack xs n ≡ s
-stack-below xs s x n m h e l =
-    let z : suc (length s) - n ≡ 1 = omega arith in
-    stack-cut xs n m (omega arith) ∙ ap (oldest n) h ∙ ap (λ (k : ℕ). drop k (x ∷ s)) z
-
-pub same_refl : (s : Scope) → Same s s
-same_refl s = record { count = refl; seen = refl }
-
-pub same_trans : {s t u : Scope} → Same s t → Same t u → Same s u
-same_trans p q = record { count = q.count ∙ p.count; seen = q.seen ∙ p.seen }
-
-pub older-refl : (s : Scope) → Older s s
+pub bound : {s t : Scope} {e : Entry} → t.entries ≡ s.entries ++ (e ∷ []) → reverse t.entries ≡ e ∷ reverse s.entries → Bound s t e
 unfolding visible
-older-refl s = record { count = omega arith; kept = refl }
+bound {s} {t} {e} h r =
+    let l : length t.entries ≡ length s.entries + 1 = ap length h ∙ length-append s.entries (e ∷ []) in
+    let w : length s.entries ≤ length s.entries = omega arith in
+    record {
+      older = record {
+        count = omega arith;
+        kept = ap (take (length s.entries)) h ∙ take-append-le (length s.entries) s.entries (e ∷ []) w ∙ take_all (length s.entries) s.entries w;
+      };
+      seen = r;
+      more = omega arith;
+    }
 
-pub older_same : {s t : Scope} → Same s t → Older s t
-unfolding visible
-older_same {s} {t} p = record { count = omega (arith, p.count); kept = ap (stack t.entries) (sym p.count) ∙ p.seen }
+pub older_same : {s t : Scope} → t ≡ s → Older s t
+older_same {s} {t} e =
+    let w : length s.entries ≤ length s.entries = omega arith in
+    let same : Older s s = record { count = w; kept = take_all (length s.entries) s.entries w } in
+    subst (Older s) (sym e) same
 
 pub older_trans : {s t u : Scope} → Older s t → Older t u → Older s u
-unfolding visible
 older_trans {s} {t} {u} p q = record {
   count = omega (arith, p.count, q.count);
-  kept = stack-cut u.entries s.count t.count p.count ∙ ap (oldest s.count) q.kept ∙ sym (stack-cut t.entries s.count t.count p.count) ∙ p.kept;
+  kept = sym (take-take (length s.entries) (length t.entries) u.entries p.count) ∙ ap (take (length s.entries)) q.kept ∙ p.kept;
 }
 
--- a mark restores the count
-pub restored : {s t u : Scope} → Older s t → u.count ≡ s.count → u.entries ≡ t.entries → Same s u
-unfolding visible
-restored {s} {t} {u} p e f = record { count = e; seen = ap (stack u.entries) e ∙ ap (λ es. stack es s.count) f ∙ p.kept }
+-- a mark restores what was visible when it was set
+pub restored : {s : Scope} {n : ℕ} {t u : Translator} → n ≡ length s.entries → Older s t.scope → Restored n t u → u.scope ≡ s
+restored {s} {n} {t} {u} e p r =
+    let entries : u.scope.entries ≡ s.entries = r.entries ∙ ap (λ (k : ℕ). take k t.scope.entries) e ∙ p.kept in
+    ap (λ (es : List Entry). let s : Scope = record { entries = es } in s) entries

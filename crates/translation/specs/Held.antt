@@ -1,49 +1,52 @@
 -- What the translator's tables hold, and what its functions do to them.
-use Rattle.std.specs.Prelude.{◌≡◌, ℕ, suc, ◌≤◌, List, ◌∷◌, ◌++◌, Ok, Err, Option, Result, slice_set}
+use Rattle.std.specs.Prelude.{◌≡◌, ℕ, suc, ◌≤◌, List, ◌∷◌, ◌++◌, reverse, length, take, Ok, Err, Option, Result, slice_set}
+use Rattle.vocabulary.specs.declared.code.Instruction.TheVariants.{Halt}
 use Rattle.vocabulary.specs.declared.code.Word.{Word}
 use Rattle.vocabulary.specs.declared.refusal.Refusal.{Refusal}
-use Rattle.vocabulary.specs.Tables.{front, stack}
 use Rattle.language.specs.declared.name.Entry.{Entry}
 use Rattle.language.specs.declared.name.Place.{Place}
 use Rattle.language.specs.declared.name.Role.{Role}
 use Rattle.language.specs.Names.{naming}
 use Rattle.language.specs.Scope.{newer_of}
-use Rattle.translation.specs.declared.tables.Code.{Code}
-use Rattle.translation.specs.declared.tables.Scope.{Scope}
+use Rattle.language.specs.Translation.{one}
+use Rattle.translation.specs.declared.scope.Scope.{Scope}
+use Rattle.translation.specs.declared.writer.Gap.{Gap}
+use Rattle.translation.specs.declared.writer.Writer.{Writer}
 
 -- the words written so far
-unfoldable pub text : Code → List Word
-text c = front c.words c.count
+abbrev pub text : Writer → List Word
+text c = c.words
 
 -- the visible names, the newest first
 unfoldable pub visible : Scope → List Entry
-visible s = stack s.entries s.count
+visible s = reverse s.entries
 
 -- from c to d the words ws were added, and the next position is p
-pub record Added (c d : Code) (ws : List Word) (p : ℕ) : Type 0 where
+pub record Added (c d : Writer) (ws : List Word) (p : ℕ) : Type 0 where
   pub words : text d ≡ text c ++ ws
-  pub end : d.count ≡ p
+  pub end : length (text d) ≡ p
 
 -- from c to d the word at a position became w
-pub record Aimed (c d : Code) (at : ℕ) (w : Word) : Type 0 where
+pub record Aimed (c d : Writer) (at : ℕ) (w : Word) : Type 0 where
   pub words : text d ≡ slice_set (text c) at w
-  pub end : d.count ≡ c.count
+  pub end : length (text d) ≡ length (text c)
+
+-- from c to d a word of a node was added for a jump to come, and g says where it stands
+pub record Reserved (c d : Writer) (node : ℕ) (g : Gap) : Type 0 where
+  pub added : Added c d (one Halt node) (suc (length (text c)))
+  pub here : g.at ≡ length (text c)
+  pub of_node : g.node ≡ node
 
 -- what was visible in s stands in t too, below what t may have more
 pub record Older (s t : Scope) : Type 0 where
-  pub count : s.count ≤ t.count
-  pub kept : stack t.entries s.count ≡ visible s
+  pub count : length s.entries ≤ length t.entries
+  pub kept : take (length s.entries) t.entries ≡ s.entries
 
 -- a name more is visible, in front of all others
 pub record Bound (s t : Scope) (e : Entry) : Type 0 where
   pub older : Older s t
   pub seen : visible t ≡ e ∷ visible s
-  pub more : t.count ≡ suc s.count
-
--- the same names are visible
-pub record Same (s t : Scope) : Type 0 where
-  pub count : t.count ≡ s.count
-  pub seen : visible t ≡ visible s
+  pub more : length t.entries ≡ suc (length s.entries)
 
 -- the answer for a name that is wanted in a role at a node, given its newest entry
 abbrev pub Resolved : ℕ → Role → Option Place → Result ℕ Refusal → Type 0

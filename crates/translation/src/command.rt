@@ -1,155 +1,179 @@
 // Commands and declarations, which hold each other: those calls go round in a cycle, and the node number falls.
 ghost use Rattle.std.specs.Prelude.{◌≡◌};
+ghost use Rattle.language.specs.Kinds.{kind_number};
 ghost use Rattle.language.specs.Reading.{tree_c, tree_d};
 ghost use Rattle.language.specs.Table.{at};
-ghost use Rattle.translation.specs.Translated.{ReadyC, ReadyD, TranslatedC, TranslatedD};
+ghost use Rattle.translation.specs.Translated.{nodes, Encloses, Introduces, ReadyBody, ReadyC, ReadyD, TranslatedBody, TranslatedC, TranslatedD};
 
-use crate::expression::plain_value;
-use crate::simple::{assign, constant, function, output, procedure_call, variable};
-use crate::tables::{Code, Mark, Scope};
+use crate::translator::{Mark, Translator};
+use language::kind::Kind;
 use language::name::Role;
 use vocabulary::code::Instruction;
-use vocabulary::node::Node;
 use vocabulary::refusal::Refusal;
 
-// Writes the code of the command at node `n`.
-#[cycle(block_command_conditional_declaration_pair_procedure_repetition_sequence)]
-pub fn command(nodes: &[Node], n: u16, code: &mut Code, scope: &mut Scope) -> Result<(), Refusal>
-    requires { ReadyC nodes.now n code.old scope.old }
-    ensures { TranslatedC (tree_c nodes.now n) scope.old scope.new code.old code.new result }
-{
-    match nodes[usize::from(n)].kind {
-        1 => assign(nodes, n, code, scope),
-        2 => output(nodes, n, code, scope),
-        3 => conditional(nodes, n, code, scope),
-        4 => repetition(nodes, n, code, scope),
-        5 => block(nodes, n, code, scope),
-        6 => sequence(nodes, n, code, scope),
-        7 => procedure_call(nodes, n, code, scope),
-        _ => unreachable(),
-    }
-}
-
-#[cycle(block_command_conditional_declaration_pair_procedure_repetition_sequence)]
-fn conditional(nodes: &[Node], n: u16, code: &mut Code, scope: &mut Scope) -> Result<(), Refusal>
-    requires ready { ReadyC nodes.now n code.old scope.old }
-    requires kind { (at nodes.now n).kind ≡ 3 }
-    ensures { TranslatedC (tree_c nodes.now n) scope.old scope.new code.old code.new result }
-{
-    let node = nodes[usize::from(n)];
-    plain_value(nodes, node.a, code, scope)?;
-    let past = code.here();
-    code.emit(Instruction::JumpFalse(0), n);
-    command(nodes, node.b, code, scope)?;
-    let end = code.here();
-    code.emit(Instruction::Jump(0), n);
-    let target = code.here();
-    code.aim(past, Instruction::JumpFalse(target), n);
-    command(nodes, node.c, code, scope)?;
-    let target = code.here();
-    code.aim(end, Instruction::Jump(target), n);
-    Ok(())
-}
-
-#[cycle(block_command_conditional_declaration_pair_procedure_repetition_sequence)]
-fn repetition(nodes: &[Node], n: u16, code: &mut Code, scope: &mut Scope) -> Result<(), Refusal>
-    requires ready { ReadyC nodes.now n code.old scope.old }
-    requires kind { (at nodes.now n).kind ≡ 4 }
-    ensures { TranslatedC (tree_c nodes.now n) scope.old scope.new code.old code.new result }
-{
-    let node = nodes[usize::from(n)];
-    let start = code.here();
-    plain_value(nodes, node.a, code, scope)?;
-    let past = code.here();
-    code.emit(Instruction::JumpFalse(0), n);
-    command(nodes, node.b, code, scope)?;
-    code.emit(Instruction::Jump(start), n);
-    let target = code.here();
-    code.aim(past, Instruction::JumpFalse(target), n);
-    Ok(())
-}
-
-// The names of the block are visible until its end.
-#[cycle(block_command_conditional_declaration_pair_procedure_repetition_sequence)]
-fn block(nodes: &[Node], n: u16, code: &mut Code, scope: &mut Scope) -> Result<(), Refusal>
-    requires ready { ReadyC nodes.now n code.old scope.old }
-    requires kind { (at nodes.now n).kind ≡ 5 }
-    ensures { TranslatedC (tree_c nodes.now n) scope.old scope.new code.old code.new result }
-{
-    let node = nodes[usize::from(n)];
-    code.emit(Instruction::Enter, n);
-    let was = scope.count;
-    let mark = Mark { scope, was };
-    declaration(nodes, node.a, code, mark.scope)?;
-    command(nodes, node.b, code, mark.scope)?;
-    code.emit(Instruction::Leave, n);
-    Ok(())
-}
-
-#[cycle(block_command_conditional_declaration_pair_procedure_repetition_sequence)]
-fn sequence(nodes: &[Node], n: u16, code: &mut Code, scope: &mut Scope) -> Result<(), Refusal>
-    requires ready { ReadyC nodes.now n code.old scope.old }
-    requires kind { (at nodes.now n).kind ≡ 6 }
-    ensures { TranslatedC (tree_c nodes.now n) scope.old scope.new code.old code.new result }
-{
-    let node = nodes[usize::from(n)];
-    command(nodes, node.a, code, scope)?;
-    command(nodes, node.b, code, scope)?;
-    Ok(())
-}
-
-// Writes the code of the declaration at node `n`, and makes its names visible.
-#[cycle(block_command_conditional_declaration_pair_procedure_repetition_sequence)]
-fn declaration(nodes: &[Node], n: u16, code: &mut Code, scope: &mut Scope) -> Result<(), Refusal>
-    requires { ReadyD nodes.now n code.old scope.old }
-    ensures { TranslatedD (tree_d nodes.now n) scope.old scope.new code.old code.new result }
-{
-    match nodes[usize::from(n)].kind {
-        10 => constant(nodes, n, code, scope),
-        11 => variable(nodes, n, code, scope),
-        12 => procedure(nodes, n, code, scope),
-        13 => function(nodes, n, code, scope),
-        14 => pair(nodes, n, code, scope),
-        _ => unreachable(),
-    }
-}
-
-// The body sees the parameter, and not its own name; the parameter is visible until the body's end.
-#[cycle(block_command_conditional_declaration_pair_procedure_repetition_sequence)]
-fn procedure(nodes: &[Node], n: u16, code: &mut Code, scope: &mut Scope) -> Result<(), Refusal>
-    requires ready { ReadyD nodes.now n code.old scope.old }
-    requires kind { (at nodes.now n).kind ≡ 12 }
-    ensures { TranslatedD (tree_d nodes.now n) scope.old scope.new code.old code.new result }
-{
-    let node = nodes[usize::from(n)];
-    let start = code.here();
-    code.emit(Instruction::Clos(start + 2), n);
-    let past = code.here();
-    code.emit(Instruction::Jump(0), n);
+impl Translator<'_> {
+    // Writes the code of the command at node `n`.
+    #[cycle(commands)]
+    pub fn command(&mut self, n: u16) -> Result<(), Refusal>
+        requires { ReadyC self.old n }
+        ensures { TranslatedC (tree_c (nodes self.old) n) self.old self.new result }
     {
-        let was = scope.count;
-        let mark = Mark {
-            scope: &mut *scope,
+        let node = self.node(n);
+        match self.shaped.kind(n) {
+            Kind::Assign => self.assign(n),
+            Kind::Output => {
+                self.plain_value(node.a)?;
+                self.code.emit(Instruction::Put, n);
+                Ok(())
+            }
+            Kind::If => self.conditional(n),
+            Kind::While => self.repetition(n),
+            Kind::Block => self.block(n),
+            Kind::Sequence => {
+                self.command(node.a)?;
+                self.command(node.b)
+            }
+            Kind::ProcedureCall => self.call(n, Role::Procedure),
+            _ => unreachable!(),
+        }
+    }
+
+    fn assign(&mut self, n: u16) -> Result<(), Refusal>
+        requires ready { ReadyC self.old n }
+        requires kind { (at (nodes self.old) n).kind ≡ kind_number Kind.Assign }
+        ensures { TranslatedC (tree_c (nodes self.old) n) self.old self.new result }
+    {
+        let node = self.node(n);
+        self.expression(node.a)?;
+        self.code.emit(Instruction::IsLoc, n);
+        self.plain_value(node.b)?;
+        self.code.emit(Instruction::Store, n);
+        Ok(())
+    }
+
+    #[cycle(commands)]
+    fn conditional(&mut self, n: u16) -> Result<(), Refusal>
+        requires ready { ReadyC self.old n }
+        requires kind { (at (nodes self.old) n).kind ≡ kind_number Kind.If }
+        ensures { TranslatedC (tree_c (nodes self.old) n) self.old self.new result }
+    {
+        let node = self.node(n);
+        self.plain_value(node.a)?;
+        let past = self.code.reserve(n);
+        self.command(node.b)?;
+        let end = self.code.reserve(n);
+        self.code
+            .aim(past, Instruction::JumpFalse(self.code.here()));
+        self.command(node.c)?;
+        self.code.aim(end, Instruction::Jump(self.code.here()));
+        Ok(())
+    }
+
+    #[cycle(commands)]
+    fn repetition(&mut self, n: u16) -> Result<(), Refusal>
+        requires ready { ReadyC self.old n }
+        requires kind { (at (nodes self.old) n).kind ≡ kind_number Kind.While }
+        ensures { TranslatedC (tree_c (nodes self.old) n) self.old self.new result }
+    {
+        let node = self.node(n);
+        let start = self.code.here();
+        self.plain_value(node.a)?;
+        let past = self.code.reserve(n);
+        self.command(node.b)?;
+        self.code.emit(Instruction::Jump(start), n);
+        self.code
+            .aim(past, Instruction::JumpFalse(self.code.here()));
+        Ok(())
+    }
+
+    // The names of the block are visible until its end.
+    #[cycle(commands)]
+    fn block(&mut self, n: u16) -> Result<(), Refusal>
+        requires ready { ReadyC self.old n }
+        requires kind { (at (nodes self.old) n).kind ≡ kind_number Kind.Block }
+        ensures { TranslatedC (tree_c (nodes self.old) n) self.old self.new result }
+    {
+        let node = self.node(n);
+        self.code.emit(Instruction::Enter, n);
+        let was = self.scope.entries.len();
+        let block = Mark {
+            translator: self,
             was,
         };
-        mark.scope.bind(node.c as u8, Role::Value);
-        command(nodes, node.a, code, mark.scope)?;
+        block.translator.declaration(node.a)?;
+        block.translator.command(node.b)?;
+        block.translator.code.emit(Instruction::Leave, n);
+        Ok(())
     }
-    code.emit(Instruction::Ret, n);
-    let target = code.here();
-    code.aim(past, Instruction::Jump(target), n);
-    scope.bind(node.tag, Role::Procedure);
-    Ok(())
-}
 
-#[cycle(block_command_conditional_declaration_pair_procedure_repetition_sequence)]
-fn pair(nodes: &[Node], n: u16, code: &mut Code, scope: &mut Scope) -> Result<(), Refusal>
-    requires ready { ReadyD nodes.now n code.old scope.old }
-    requires kind { (at nodes.now n).kind ≡ 14 }
-    ensures { TranslatedD (tree_d nodes.now n) scope.old scope.new code.old code.new result }
-{
-    let node = nodes[usize::from(n)];
-    declaration(nodes, node.a, code, scope)?;
-    declaration(nodes, node.b, code, scope)?;
-    Ok(())
+    // Writes the code of the declaration at node `n`, and makes its names visible.
+    #[cycle(commands)]
+    fn declaration(&mut self, n: u16) -> Result<(), Refusal>
+        requires { ReadyD self.old n }
+        ensures { TranslatedD (tree_d (nodes self.old) n) self.old self.new result }
+    {
+        let node = self.node(n);
+        match self.shaped.kind(n) {
+            Kind::Constant => self.value(n, Instruction::Bind),
+            Kind::Variable => self.value(n, Instruction::New),
+            Kind::Procedure => self.routine(n, Role::Procedure),
+            Kind::Function => self.routine(n, Role::Function),
+            Kind::Pair => {
+                self.declaration(node.a)?;
+                self.declaration(node.b)
+            }
+            _ => unreachable!(),
+        }
+    }
+
+    // A constant has its value by BIND, a variable a cell with it by NEW.
+    fn value(&mut self, n: u16, instruction: Instruction) -> Result<(), Refusal>
+        requires ready { ReadyD self.old n }
+        requires kind { Introduces instruction (at (nodes self.old) n).kind }
+        ensures { TranslatedD (tree_d (nodes self.old) n) self.old self.new result }
+    {
+        let node = self.node(n);
+        self.plain_value(node.a)?;
+        self.code.emit(instruction, n);
+        self.scope.bind(node.tag, Role::Value);
+        Ok(())
+    }
+
+    // A procedure or a function, by its role.
+    #[cycle(commands)]
+    fn routine(&mut self, n: u16, role: Role) -> Result<(), Refusal>
+        requires ready { ReadyD self.old n }
+        requires kind { Encloses role (at (nodes self.old) n).kind }
+        ensures { TranslatedD (tree_d (nodes self.old) n) self.old self.new result }
+    {
+        let node = self.node(n);
+        let start = self.code.here() + 2;
+        self.code.emit(Instruction::Clos(start), n);
+        let past = self.code.reserve(n);
+        self.body(n, role)?;
+        self.code.emit(Instruction::Ret, n);
+        self.code.aim(past, Instruction::Jump(self.code.here()));
+        self.scope.bind(node.tag, role);
+        Ok(())
+    }
+
+    // The body sees the parameter, and not its own name; the parameter is visible until the body's end.
+    #[cycle(commands)]
+    fn body(&mut self, n: u16, role: Role) -> Result<(), Refusal>
+        requires ready { ReadyBody self.old n }
+        requires kind { Encloses role (at (nodes self.old) n).kind }
+        ensures { TranslatedBody (tree_d (nodes self.old) n) self.old self.new result }
+    {
+        let node = self.node(n);
+        let was = self.scope.entries.len();
+        let body = Mark {
+            translator: self,
+            was,
+        };
+        body.translator.scope.bind(node.c as u8, Role::Value);
+        match role {
+            Role::Procedure => body.translator.command(node.a),
+            Role::Value | Role::Function => body.translator.expression(node.a),
+        }
+    }
 }

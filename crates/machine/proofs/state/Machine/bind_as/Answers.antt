@@ -1,11 +1,8 @@
-use Rattle.std.proofs.Common.{ap, sym, ◌∙◌}
+use Rattle.std.proofs.Common.{ap}
 use Rattle.machine.specs.Links.{reach}
-use Rattle.machine.proofs.Linking.{grown, nested_more}
+use Rattle.machine.proofs.Linking.{grown}
 use Rattle.machine.proofs.Turning.{bind_goes}
 use Rattle.machine.proofs.state.Machine.bind_as.Goals as goal
-
-pub invariant_of-self : goal.invariant_of-self
-invariant_of-self c = record { inner = nested_more _ _ _ _ _ c.bind.result c.bind.ensures.added c.bind.ensures.env c.args.self.now.inner }
 
 pub returns : goal.returns
 returns c =

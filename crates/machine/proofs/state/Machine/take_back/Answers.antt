@@ -1,14 +1,5 @@
-use Rattle.std.proofs.Common.{refl}
-use Rattle.std.proofs.lemmas.Result.{err_from_is_err_and}
-use Rattle.machine.proofs.Linking.{frame_fits, back, chains_none}
+use Rattle.machine.proofs.Linking.{frame_fits, back}
 use Rattle.machine.proofs.state.Machine.take_back.Goals as goal
-
-pub returns-in_err-frame : goal.returns-in_err-frame
-returns-in_err-frame c =
-    let p = err_from_is_err_and c.from_residual.result c.from_residual.ensures.1 in
-    let e = rw c.in_err-frame.ensures.ok_part at c.pop.ensures.stacked in
-    let v = rw c.in_err-frame.ensures.ok_part at c.in_err-frame.ensures.value in
-    rw (p.1, p.2) (chains_none _ _ e.0, cc v)
 
 pub take_back-requires : goal.take_back-requires
 take_back-requires c =
@@ -21,9 +12,3 @@ invariant_of-self-2 c =
     let e = rw c.in_ok-frame.ensures.ok_part at c.pop.ensures.stacked in
     let b = back c.args.self.now.bindings.entries c.take_back.new.self.entries _ _ c.in_ok-frame.frame _ e c.take_back.ensures.entries c.args.self.now.inner in
     record { inner = rw c.take_back.ensures.env b.nests }
-
-pub returns : goal.returns
-returns c =
-    let e = rw c.in_ok-frame.ensures.ok_part at c.pop.ensures.stacked in
-    let b = back c.args.self.now.bindings.entries c.take_back.new.self.entries _ _ c.in_ok-frame.frame _ e c.take_back.ensures.entries c.args.self.now.inner in
-    (rw c.take_back.ensures.env b.shown, refl)

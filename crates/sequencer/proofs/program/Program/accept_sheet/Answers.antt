@@ -1,6 +1,5 @@
-use Rattle.std.proofs.Common.{◌≡◌, true, false, Some, sym, ◌∙◌}
+use Rattle.std.proofs.Common.{true, false, sym, ◌∙◌}
 use Rattle.std.proofs.lemmas.Result.{err_from_is_err_and}
-use Rattle.sheet.specs.Opening.{counts_in}
 use Rattle.sequencer.specs.Model.{held}
 use Rattle.sequencer.proofs.Holding.{frame_is, table-refused, code_decides}
 use Rattle.sequencer.proofs.program.Program.accept_sheet.Goals as goal
