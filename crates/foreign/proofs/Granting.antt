@@ -1,10 +1,10 @@
 -- Fuel granted in runs is fuel granted at once; and a take that has ended stays where it is, whatever else is granted.
-use Rattle.std.proofs.Common.{◌≡◌, ℕ, zero, suc, ◌+◌, ◌-◌, ◌≤◌, Bool, true, false, List, Ok, Err, sym, refl, ap, ◌∙◌, subst, arith}
+use Rattle.std.proofs.Common.{◌≡◌, ℕ, zero, suc, ◌+◌, ◌-◌, ◌≤◌, Bool, true, false, List, is_some, Ok, Err, Result, sym, refl, ap, ◌∙◌, subst, arith}
 use Rattle.std.specs.Result.{result_and}
 use Rattle.std.proofs.lemmas.Bool.{le-leb}
 use Rattle.vocabulary.specs.declared.code.Word.{Word}
 use Rattle.vocabulary.specs.declared.end.End.{End}
-use Rattle.vocabulary.specs.declared.refusal.Cause.TheVariants.{TakeEnded, Fuel}
+use Rattle.vocabulary.specs.declared.refusal.Cause.TheVariants.{NoProgram, TakeEnded, Fuel}
 use Rattle.vocabulary.specs.declared.refusal.Refusal.{Refusal}
 use Rattle.vocabulary.specs.Refusals.{unless}
 use Rattle.vocabulary.specs.World.{World, Rules}
@@ -15,7 +15,8 @@ use Rattle.machine.specs.Seen.{stands}
 use Rattle.machine.specs.State.{Core, Ports, State}
 use Rattle.machine.specs.State.State.{halted, broken}
 use Rattle.agreement.proofs.Steps.{iterate_add, halted-stays, broken-stays}
-use Rattle.sequencer.specs.Calls.{state_of, Stepped, program_verdict, run_verdict, goes_on, grants}
+use Rattle.sequencer.specs.Calls.{state_of, Stepped, RunAnswer, program_verdict, run_verdict, goes_on, grants}
+use Rattle.sequencer.specs.declared.report.Report.{Report}
 use Rattle.sequencer.specs.declared.state.Sequencer.{Sequencer}
 use Rattle.sequencer.specs.Model.{Model, model, code_of}
 use Rattle.session.proofs.Grants.{taken_add}
@@ -117,3 +118,22 @@ refused-ended m fuel e p few enough h =
     go : (b : Bool) → result_and (unless b TakeEnded 0) (unless true Fuel 0) ≡ Err e → b ≡ false
     go true q = let z : ◌≡◌ {A = ℕ} 0 1 = cc in absurd (omega arith)
     go false q = refl
+
+-- the next run of a take, carried out or refused: the fuel that was granted is granted, and no more is counted
+module _ (R : Rules) (k j : ℕ) (first : Model) (before after : Sequencer) (from o o' : Ports) (r : Result Report Refusal)
+    (g : Granted R k first (model before) from o) (p : program_verdict first ≡ Ok tt)
+    (few : j ≤ 1000000) (enough : (model before).granted + j ≤ 1000000000) where
+  there : program_verdict (model before) ≡ Ok tt
+  there = ap (λ q. unless (is_some q) NoProgram 0) g.program ∙ p
+
+  pub granted_run : (n : ℕ) → RunAnswer R j before after o o' r → n ≡ k + j → Granted R n first (model after) from o'
+  granted_run n a e = go r a
+    where
+      go : (r : Result Report Refusal) → RunAnswer R j before after o o' r → Granted R n first (model after) from o'
+      go (Ok report) a = granted_more R k first (model before) from o g j n (model after) o' a.1 e
+      go (Err refusal) a = granted-refused R k n first before after from o o' g (refused-ended (model before) j refusal there few enough a.0) (omega arith) a.1 a.2
+
+-- a run counts no more than its fuel
+pub counted : (R : Rules) (j : ℕ) (before after : Sequencer) (o o' : Ports) (r : Result Report Refusal) → RunAnswer R j before after o o' r → (model after).granted ≤ (model before).granted + j
+counted R j before after o o' (Ok report) a = let s = a.1.granted in omega arith
+counted R j before after o o' (Err refusal) a = let s = ap (λ x. (model x).granted) a.1 in omega arith

@@ -1,5 +1,5 @@
 -- From a take between a feed and a strip to what the owner of samples and memory learns of it.
-use Rattle.std.proofs.Common.{◌≡◌, ℕ, List, [], length, Result, ap, ◌∙◌, subst}
+use Rattle.std.proofs.Common.{◌≡◌, ℕ, List, [], length, Ok, Err, Result, refl, ap, ◌∙◌, subst}
 use Rattle.vocabulary.specs.declared.item.Item.{Item}
 use Rattle.vocabulary.specs.declared.refusal.Refusal.{Refusal}
 use Rattle.vocabulary.specs.declared.value.Plain.{Plain}
@@ -10,6 +10,14 @@ use Rattle.sequencer.specs.declared.report.Report.{Report}
 use Rattle.foreign.specs.declared.answers.Outcome.{Outcome}
 use Rattle.foreign.specs.Answers.{outcome_of}
 use Rattle.foreign.specs.Calls.{Performs, Runs}
+
+-- an outcome, once what is left and filled is known
+pub known : (r : Result Report Refusal) (told : Outcome) (left filled : ℕ) → told ≡ outcome_of r 0 0 → record told { left = left; filled = filled } ≡ outcome_of r left filled
+known r told left filled e = let count : Outcome → Outcome = λ o. record o { left = left; filled = filled } in ap count e ∙ go r
+  where
+    go : (r : Result Report Refusal) → record (outcome_of r 0 0) { left = left; filled = filled } ≡ outcome_of r left filled
+    go (Ok report) = refl
+    go (Err refusal) = refl
 
 pub runs : {X : Type 0} (price : Plain → ℕ) (written : List Plain → List X) (table : List ℕ) (fuel : ℕ)
     (items waiting : List Item) (held : List Plain) (space : ℕ) (to : Ports) (r : Result Report Refusal) (before after : List X)

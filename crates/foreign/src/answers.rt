@@ -74,10 +74,11 @@ impl From<Result<usize, Refusal>> for Written {
     }
 }
 
-impl Outcome {
-    pub(crate) fn of(res: Result<Report, Refusal>, left: usize, filled: usize) -> Outcome
-        ensures { result ≡ outcome_of res left filled }
-    {
+// What is left and filled is not known here.
+impl From<Result<Report, Refusal>> for Outcome {
+    ghost from_gives = { λ res outcome. outcome ≡ outcome_of res 0 0 };
+
+    fn from(res: Result<Report, Refusal>) -> Outcome {
         match res {
             Ok(report) => Outcome {
                 refusal: 0,
@@ -86,8 +87,8 @@ impl Outcome {
                 code: report.code(),
                 node: report.node(),
                 steps: report.steps,
-                left,
-                filled,
+                left: 0,
+                filled: 0,
             },
             Err(refusal) => Outcome {
                 refusal: refusal.cause.number(),
@@ -96,8 +97,8 @@ impl Outcome {
                 code: 0,
                 node: refusal.node,
                 steps: 0,
-                left,
-                filled,
+                left: 0,
+                filled: 0,
             },
         }
     }

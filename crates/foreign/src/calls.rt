@@ -57,8 +57,12 @@ fn run_onto<T: Element>(table: &[u8], samples: &[Record], memory: &mut [T], fuel
 {
     let mut feed = Trace::new(samples);
     let mut strip = LentStrip::new(memory);
-    let result = perform(table, fuel, &mut feed, &mut strip);
-    Outcome::of(result, feed.left(), strip.used())
+    let told = perform(table, fuel, &mut feed, &mut strip);
+    Outcome {
+        left: feed.left(),
+        filled: strip.used(),
+        ..told.into()
+    }
 }
 
 // Carries out a table between samples and lines of text.

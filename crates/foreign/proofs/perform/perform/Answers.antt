@@ -9,7 +9,7 @@ use Rattle.foreign.proofs.perform.perform.Goals as goal
 
 pub returns : goal.returns
 returns g c =
-    let loaded = c.in-Ok.ensures in
+    let loaded = c.in_ok-load.ensures in
     let from = between g.F.Feed g.S.Strip c.args.feed.now c.args.strip.now in
     let to = between g.F.Feed g.S.Strip c.grant_all.new.feed c.grant_all.new.strip in
     let granted =

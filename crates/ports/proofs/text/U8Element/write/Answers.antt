@@ -1,5 +1,4 @@
-use Rattle.std.proofs.Common.{◌≡◌, ℕ, ◌-◌, List, length, take, drop, ℤ, sym, subst, ap, ◌∙◌, arith, length-drop, w32, SFits, rules}
-use Rattle.std.proofs.lemmas.List.{take_all}
+use Rattle.std.proofs.Common.{sym, subst, ap, ◌∙◌, w32, SFits, rules}
 use Rattle.std.proofs.lemmas.Int.{to_z-of_z}
 use Rattle.vocabulary.specs.declared.value.Plain.TheVariants.{Number}
 use Rattle.ports.specs.Lines.{line_of}
@@ -7,15 +6,11 @@ use Rattle.ports.proofs.Lined.{line-wrote}
 use Rattle.ports.proofs.Parsed.{Small}
 use Rattle.ports.proofs.text.U8Element.write.Goals as goal
 
-line_part : (z : ℤ) (r : ℕ) (buffer : List ℕ) → length buffer ≡ 12 → drop r buffer ≡ line_of (Number z) → take (12 - r) (drop r buffer) ≡ line_of (Number z)
-line_part z r buffer l e = let d = length-drop r buffer in take_all (12 - r) (drop r buffer) (omega arith) ∙ e
-
 pub returns-in-Number : goal.returns-in-Number
 returns-in-Number c =
     let z = c.in-Number.number in
     let f : SFits w32 z = search rules in
-    let t : drop c.number_line-at.result c.number_line-at.new.buffer ≡ line_of (Number z) = simp to_z-of_z at c.number_line-at.ensures.text in
-    let is = line_part z c.number_line-at.result c.number_line-at.new.buffer (search rules) t in
+    let is = simp to_z-of_z at c.number_line.ensures in
     simp c.in-Number.is (line-wrote (Number z) _ c.args.free.now c.fill.new.free c.fill.result is f.sfits c.fill.ensures)
 
 pub returns-in-Truth : goal.returns-in-Truth
