@@ -5,7 +5,8 @@ use Rattle.std.proofs.lemmas.Bool.Decides.{nat_tests}
 use Rattle.vocabulary.specs.declared.node.Node.{Node}
 use Rattle.language.specs.declared.kind.Sort.{Sort}
 use Rattle.language.specs.declared.kind.Sort.TheVariants.{Command, Declaration, Expression}
-use Rattle.language.specs.Fields.{ChildField, is_of, fields_of, formed, children}
+use Rattle.language.specs.declared.kind.ChildField.{ChildField}
+use Rattle.language.specs.Fields.{is_of, fields_of, formed, children}
 use Rattle.language.specs.Reading.{FormE, FormC, FormD, form_e, form_c, form_d}
 use Rattle.language.specs.Reading.FormE.{number_f, truth_f, read_f, name_f, operation_f, function_call_f, choice_f}
 use Rattle.language.specs.Reading.FormC.{assign_f, output_f, when_f, while_f, block_f, sequence_f, procedure_call_f}

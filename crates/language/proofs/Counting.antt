@@ -2,7 +2,7 @@
 -- exactly once, the sizes of the children of all nodes are the sizes of the nodes below r, so the size at r is the weight of all nodes.
 use Rattle.std.proofs.Common.{◌≡◌, ℕ, zero, suc, ◌+◌, ◌*◌, ◌<◌, true, List, [], ◌∷◌, ◌++◌, sym, refl, ap, ◌∙◌, subst, ⊎_elim, add-mul, one-mul, zero-mul, mul-one, arith}
 use Rattle.std.proofs.lemmas.Bool.{cases_eq, eq-eqb, ne_eqb, and_parts, ltb-true}
-use Rattle.language.specs.Fields.{ChildField}
+use Rattle.language.specs.declared.kind.ChildField.{ChildField}
 use Rattle.language.specs.Table.{hit, times, lower}
 
 abbrev pub sum_to : ℕ → (ℕ → ℕ) → ℕ

@@ -4,7 +4,8 @@ use Rattle.std.proofs.lemmas.Bool.{and_from, and_parts, ltb-true, lt-ltb}
 use Rattle.std.proofs.lemmas.List.Folds.{list_all-append}
 use Rattle.std.proofs.lemmas.Bool.Decides.{nat_tests}
 use Rattle.vocabulary.specs.declared.node.Node.{Node}
-use Rattle.language.specs.Fields.{ChildField, children}
+use Rattle.language.specs.declared.kind.ChildField.{ChildField}
+use Rattle.language.specs.Fields.{children}
 use Rattle.language.specs.Table.{at, lower, hit, times, children_in}
 
 pub lower-++ : (m : ℕ) (xs ys : List ChildField) → lower m (xs ++ ys) ≡ (lower m xs && lower m ys)

@@ -5,7 +5,7 @@ use Rattle.std.proofs.lemmas.Bool.{ltb-true}
 use Rattle.std.proofs.lemmas.Bool.Decides.{nat_tests}
 use Rattle.std.proofs.lemmas.List.Recursion.{and_at, is_sum_by}
 use Rattle.language.specs.declared.kind.Sort.TheVariants.{Command}
-use Rattle.language.specs.Fields.{ChildField}
+use Rattle.language.specs.declared.kind.ChildField.{ChildField}
 use Rattle.language.specs.Table.{lower, hit, times}
 
 pub zeros : (m k : ℕ) → ◌≡◌ {A = ℕ} (get_or (replicate {A = ℕ} m 0) k 0) 0

@@ -6,9 +6,9 @@ use Rattle.language.specs.declared.kind.Sort.{Sort}
 use Rattle.language.specs.declared.kind.Sort.TheVariants.{Command, Declaration, Expression}
 use Rattle.language.specs.declared.kind.Rule.{Rule}
 use Rattle.language.specs.declared.kind.Rule.TheVariants.{Unused, Name, Truth, Operator, Half, Child}
+use Rattle.language.specs.declared.kind.ChildField.{ChildField}
 use Rattle.language.specs.declared.kind.Field.{Field}
 use Rattle.language.specs.declared.kind.Fields.{Fields}
-pub use Rattle.language.specs.declared.kind.ChildField.{ChildField}
 
 abbrev pub within : ℕ → ℕ → ℕ → Bool
 within low high k = nat_le low k && nat_le k high

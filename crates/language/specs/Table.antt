@@ -2,7 +2,8 @@
 use Rattle.std.specs.Prelude.{ℕ, zero, suc, ◌+◌, ◌-◌, ◌*◌, ◌/◌, ◌%◌, Bool, cond, ◌&&◌, List, [], ◌∷◌, ◌++◌, length, ◌==◌, nat_le, nat_lt, slice_index, slice_index_or}
 use Rattle.std.specs.List.{list_all}
 use Rattle.vocabulary.specs.declared.node.Node.{Node}
-use Rattle.language.specs.Fields.{ChildField, children, is_of}
+use Rattle.language.specs.declared.kind.ChildField.{ChildField}
+use Rattle.language.specs.Fields.{children, is_of}
 
 -- a 16-bit field, low byte first
 abbrev pub field : List ℕ → ℕ → ℕ

@@ -9,7 +9,8 @@ use Rattle.vocabulary.specs.declared.code.Instruction.{Instruction}
 use Rattle.vocabulary.specs.declared.code.Instruction.TheVariants.{Num, Truth, Read, Look, Deref, Op, JumpFalse, Jump, Call, Ret, IsLoc, Store, Put, Enter, Leave, Bind, New, Clos, Halt}
 use Rattle.vocabulary.specs.declared.node.Node.{Node}
 use Rattle.vocabulary.specs.Codes.{name_of, operand_of}
-use Rattle.language.specs.Fields.{ChildField, children}
+use Rattle.language.specs.declared.kind.ChildField.{ChildField}
+use Rattle.language.specs.Fields.{children}
 use Rattle.language.specs.Table.{at, lower, root_of}
 use Rattle.language.specs.Verdicts.{shape_verdict}
 use Rattle.language.proofs.Shape.{shaped}

@@ -3,7 +3,8 @@
 use Rattle.std.proofs.Common.{◌≡◌, ℕ, zero, suc, ◌+◌, ◌<◌, List, [], ◌∷◌, ◌++◌, length, Ok, sym, refl, ap, ◌∙◌, arith}
 use Rattle.std.specs.List.{flat_map}
 use Rattle.vocabulary.specs.declared.node.Node.{Node}
-use Rattle.language.specs.Fields.{ChildField, children}
+use Rattle.language.specs.declared.kind.ChildField.{ChildField}
+use Rattle.language.specs.Fields.{children}
 use Rattle.language.specs.Table.{at, hit, root_of}
 use Rattle.language.specs.Verdicts.{shape_verdict}
 use Rattle.language.proofs.Counting.{sum_of, sum_to, sum_to_ones, sum_to-found}

@@ -2,7 +2,8 @@
 use Rattle.std.specs.Prelude.{ℕ, zero, suc, ◌+◌, List, [], ◌∷◌}
 use Rattle.std.specs.List.{flat_map}
 use Rattle.vocabulary.specs.declared.node.Node.{Node}
-use Rattle.language.specs.Fields.{ChildField, children}
+use Rattle.language.specs.declared.kind.ChildField.{ChildField}
+use Rattle.language.specs.Fields.{children}
 use Rattle.language.specs.Table.{at, hit, root_of}
 use Rattle.listing.specs.declared.rows.Row.{Row}
 

@@ -2,11 +2,12 @@ ghost use Rattle.std.specs.Prelude.{◌≡◌};
 ghost use Rattle.listing.specs.declared.error.ListingError.TheVariants.{NoTree, Memory};
 
 use std::alloc::{AllocError, AllocFailed};
+use std::error::Error;
 use std::fmt;
 use vocabulary::refusal::Refusal;
 
 // Why there is no listing: the nodes have no tree, or there is no memory for the text.
-#[derive(Clone, Copy)]
+#[derive(Clone, Copy, PartialEq, Eq, Debug)]
 pub enum ListingError {
     NoTree(Refusal),
     Memory,
@@ -20,6 +21,8 @@ impl fmt::Display for ListingError {
         }
     }
 }
+
+impl Error for ListingError {}
 
 impl From<Refusal> for ListingError {
     ghost from_gives = { λ refusal r. r ≡ NoTree refusal };

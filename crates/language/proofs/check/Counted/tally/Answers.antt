@@ -1,6 +1,7 @@
 use Rattle.std.proofs.Common.{◌≡◌, ◌<◌, ◌≤◌, ℕ, length, get_or, take, refl, ap, ◌∙◌, take_all, arith, length-set, subst, sym, true, List}
 use Rattle.vocabulary.specs.declared.node.Node.{Node}
-use Rattle.language.specs.Fields.{ChildField, children}
+use Rattle.language.specs.declared.kind.ChildField.{ChildField}
+use Rattle.language.specs.Fields.{children}
 use Rattle.language.specs.Table.{times, hit, lower, children_in, at}
 use Rattle.language.proofs.Fielded.{one_more_node, hit_few}
 use Rattle.language.proofs.Tallying.{zeros, raised, times_more, lower_at, nobody}
