@@ -1,5 +1,5 @@
 -- What a table of at most `most` items answers, and what it holds then.
-use Rattle.std.specs.Prelude.{◌≡◌, ℕ, ◌<◌, ◌≤◌, List, [], ◌∷◌, ◌++◌, length, Ok, Err, Result, slice_set}
+use Rattle.std.specs.Prelude.{◌≡◌, ℕ, ◌<◌, ◌≤◌, List, [], ◌∷◌, ◌++◌, length, Some, None, Ok, Err, Option, Result, slice_set}
 use Rattle.vocabulary.specs.declared.table.TableFull.{TableFull}
 use Rattle.vocabulary.specs.declared.table.NotInUse.{NotInUse}
 
@@ -12,6 +12,11 @@ Added most s t x (Err _) = (most ≤ length s) × (t ≡ s)
 abbrev pub Pushed : {X : Type 0} → ℕ → List X → List X → X → Result (Unit {0}) TableFull → Type 0
 Pushed most s t x (Ok _) = (length s < most) × (t ≡ x ∷ s)
 Pushed most s t x (Err _) = (most ≤ length s) × (t ≡ s)
+
+-- the newest taken off, if there is one, seen newest first
+abbrev pub Popped : {X : Type 0} → List X → List X → Option X → Type 0
+Popped s t None = (s ≡ []) × (t ≡ [])
+Popped s t (Some x) = s ≡ x ∷ t
 
 -- a write at i, done where i is in use, and else nothing
 abbrev pub Stored : {X : Type 0} → List X → List X → ℕ → X → Result (Unit {0}) NotInUse → Type 0

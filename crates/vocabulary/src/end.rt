@@ -75,10 +75,7 @@ impl fmt::Display for End {
             End::Overflow => f.write_str("a result is beyond 32 bits"),
             End::ZeroDivisor => f.write_str("a divisor is 0"),
             End::Empty => f.write_str("the feed is empty"),
-            End::Fault(fault) => {
-                let code = fault.code;
-                write!(f, "the feed has fault {code}")
-            }
+            End::Fault(fault) => write!(f, "the feed has fault {}", fault.code),
             End::Full => f.write_str("the strip has too little space"),
         }
     }

@@ -8,6 +8,5 @@ pub mod item;
 pub mod node;
 pub mod number;
 pub mod refusal;
-pub mod slots;
 pub mod table;
 pub mod value;

@@ -100,9 +100,8 @@ impl fmt::Display for Cause {
 // The number, the node at fault where the cause is about a node, and the cause in words.
 impl fmt::Display for Refusal {
     fn fmt<W: fmt::Write>(&self, f: &mut fmt::Formatter<W>) -> fmt::Result {
-        let number = self.cause.number();
-        let node = self.node;
-        let cause = self.cause;
+        let Refusal { cause, node } = *self;
+        let number = cause.number();
         if cause.is_about_a_node() {
             write!(f, "refused ({number}) at node {node}: {cause}")
         } else {

@@ -1,10 +1,9 @@
 // A table with a stated maximum, which lies in the value itself and takes no heap. Clauses see the list of its items, the oldest first.
 // The one append serves code words, names, values, bindings, cells and frames.
 ghost use Rattle.std.specs.Prelude.{◌≡◌, ◌==◌, ◌<◌, ◌≤◌, [], ◌++◌, ◌∷◌, length, reverse, take, OnSome};
-ghost use Rattle.vocabulary.specs.Appending.{Added, Pushed, Stored};
-ghost use Rattle.vocabulary.specs.Tables.{found, oldest, first_of, Popped};
+ghost use Rattle.vocabulary.specs.Appending.{Added, Pushed, Popped, Stored};
+ghost use Rattle.vocabulary.specs.Tables.{found, oldest, first_of};
 
-pub use crate::slots::{append, fetch, get, in_use, pop, push_back, put, top, truncate};
 use std::marker::Model;
 
 // An append found no place free.
