@@ -86,6 +86,7 @@ impl TryFrom<u8> for Operation {
 }
 
 impl Instruction {
+    // By cases: an instruction carries its operand, and only a plain enum's variants have numbers of their own.
     pub fn opcode(self) -> u8
         ensures { result ≡ opcode_of self }
     {

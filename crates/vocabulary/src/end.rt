@@ -29,6 +29,7 @@ pub enum End {
 }
 
 impl End {
+    // By cases: a fault carries its code, and only a plain enum's variants have numbers of their own.
     pub fn number(self) -> u8
         ensures { result ≡ number_of self }
     {
