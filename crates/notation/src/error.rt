@@ -1,6 +1,6 @@
 // Why a line cannot be read: a sentence that says what is wrong, where, and what would be right.
-ghost use Rattle.std.specs.Prelude.{◌≡◌, MatchResult};
-ghost use Rattle.notation.specs.declared.error.ReadError.TheVariants.{Memory};
+ghost use Rattle.std.specs.Prelude.{◌≡◌};
+ghost use Rattle.notation.specs.declared.error.ReadError.TheVariants.{Memory, Word};
 
 use std::alloc::{AllocError, AllocFailed};
 use std::fmt;
@@ -81,7 +81,9 @@ impl<T: Drop> From<AllocFailed<T>> for ReadError {
 
 impl Wanted {
     // Why the line cannot be read, where a word is wrong.
-    pub fn missed(self, error: WordError) -> ReadError {
+    pub fn missed(self, error: WordError) -> ReadError
+        ensures { result ≡ Word self error }
+    {
         ReadError::Word {
             wanted: self,
             error,
@@ -98,27 +100,44 @@ impl fmt::Display for Wanted {
             Wanted::Sheet => f.write_str(
                 "the sheet of `open`, two hex digits a byte, or - for no bytes",
             ),
-            Wanted::Fuel => f.write_str("the fuel of `run`, a number from 0 to 4294967295"),
-            Wanted::RecordCount => f.write_str(
-                "the number of records of the strip, from 0 to 18446744073709551615",
+            Wanted::Fuel => write!(f, "the fuel of `run`, a number from 0 to {}", u32::MAX),
+            Wanted::RecordCount => {
+                write!(
+                    f,
+                    "the number of records of the strip, from 0 to {}",
+                    usize::MAX
+                )
+            }
+            Wanted::ByteCount => {
+                write!(
+                    f,
+                    "the number of bytes of the strip, from 0 to {}",
+                    usize::MAX
+                )
+            }
+            Wanted::Start => write!(
+                f,
+                "the start of the ramp, a number from {} to {}",
+                i32::MIN,
+                i32::MAX
             ),
-            Wanted::ByteCount => f.write_str(
-                "the number of bytes of the strip, from 0 to 18446744073709551615",
+            Wanted::Step => write!(
+                f,
+                "the step of the ramp, a number from {} to {}",
+                i32::MIN,
+                i32::MAX
             ),
-            Wanted::Start => f.write_str(
-                "the start of the ramp, a number from -2147483648 to 2147483647",
-            ),
-            Wanted::Step => f.write_str(
-                "the step of the ramp, a number from -2147483648 to 2147483647",
-            ),
-            Wanted::Count => f.write_str("the count of the ramp, a number from 0 to 65535"),
+            Wanted::Count => write!(f, "the count of the ramp, a number from 0 to {}", u16::MAX),
             Wanted::Reading(item) => write!(
                 f,
-                "item {item} of the trace, a number from -2147483648 to 2147483647 or a fault as fault:3"
+                "item {item} of the trace, a number from {} to {} or a fault as fault:3",
+                i32::MIN,
+                i32::MAX
             ),
             Wanted::FaultCode(item) => write!(
                 f,
-                "item {item} of the trace, a fault whose code is a number from 1 to 255"
+                "item {item} of the trace, a fault whose code is a number from 1 to {}",
+                u8::MAX
             ),
         }
     }

@@ -1,13 +1,25 @@
 // Numbers in decimal digits, within a range.
-ghost use Rattle.std.specs.Prelude.{◌≡◌, ℕ, ◌≤◌, ℤ, MatchResult, FitsSigned};
-ghost use Rattle.std.specs.Int.{w32};
-ghost use Rattle.notation.specs.Numbers.{Signed, Unsigned};
+ghost use Rattle.std.specs.Prelude.{◌≡◌, ℕ, ◌+◌, ◌-◌, ◌*◌, ◌<◌, ◌≤◌, ℤ, MatchOption, MatchResult, IfErr, FitsSigned};
+ghost use Rattle.std.specs.Int.{w32, IsInRange};
+ghost use Rattle.notation.specs.Numbers.{DigitsError, Signed, SignedError, Unsigned};
 
 use crate::error::{Shown, WordError};
 
+// The number with one more digit, if it is at most `most`.
+fn with_digit(number: u64, digit: u8, most: u64) -> Option<u64>
+    requires { IsInRange 48 57 digit }
+    ensures { MatchOption result (most < number * 10 + (digit - 48)) (λ n. (n ≤ most) × (n ≡ number * 10 + (digit - 48))) }
+{
+    let grown = number
+        .checked_mul(10)?
+        .checked_add(u64::from(digit - b'0'))?;
+    (grown <= most).then_some(grown)
+}
+
 // The number that digits write, if it is at most `most`; so many bytes of the word stand before them.
 pub fn read_digits(digits: &[u8], before: usize, most: u64) -> Result<u64, WordError>
-    ensures { MatchResult result (λ n. (n ≤ most) × Unsigned digits.now n) (λ _. (n : ℕ) → n ≤ most → Unsigned digits.now n → ⊥) }
+    ensures number { MatchResult result (λ n. (n ≤ most) × Unsigned digits.now n) (λ _. (n : ℕ) → n ≤ most → Unsigned digits.now n → ⊥) }
+    ensures fault { IfErr result (DigitsError digits.now before most) }
 {
     if digits.is_empty() {
         return Err(if before == 0 {
@@ -16,26 +28,23 @@ pub fn read_digits(digits: &[u8], before: usize, most: u64) -> Result<u64, WordE
             WordError::NoDigits
         });
     }
-    let mut number = 0u64;
-    for (at, byte) in digits.iter().enumerate() {
+    let mut number = 0;
+    for (at, &byte) in digits.iter().enumerate() {
         if !byte.is_ascii_digit() {
             return Err(WordError::NoDigit {
                 place: before.saturating_add(at + 1),
-                found: Shown(*byte),
+                found: Shown(byte),
             });
         }
-        let digit = u64::from(*byte - b'0');
-        if digit > most || number > (most - digit) / 10 {
-            return Err(WordError::OutOfRange);
-        }
-        number = number * 10 + digit;
+        number = with_digit(number, byte, most).ok_or(WordError::OutOfRange)?;
     }
     Ok(number)
 }
 
 // A signed number of 32 bits.
 pub fn read_signed(word: &[u8]) -> Result<i32, WordError>
-    ensures { MatchResult result (λ z. Signed word.now z) (λ _. (z : ℤ) → FitsSigned w32 z → Signed word.now z → ⊥) }
+    ensures number { MatchResult result (λ z. Signed word.now z) (λ _. (z : ℤ) → FitsSigned w32 z → Signed word.now z → ⊥) }
+    ensures fault { IfErr result (SignedError word.now) }
 {
     match word.strip_prefix(b"-") {
         Some(digits) => {

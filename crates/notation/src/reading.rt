@@ -46,6 +46,13 @@ fn last_number(rest: &[u8], wanted: Wanted, most: u64) -> Result<u64, ReadError>
     Ok(number)
 }
 
+// The same of a number of elements.
+fn last_size(rest: &[u8], wanted: Wanted) -> Result<usize, ReadError>
+    ensures { MatchResult result (λ n. (n ≤ 18446744073709551615) × ((w : List ℕ) × Words rest.now (w ∷ []) × Unsigned w n)) (λ _. (n : ℕ) → n ≤ 18446744073709551615 → (w : List ℕ) → Words rest.now (w ∷ []) → Unsigned w n → ⊥) }
+{
+    last_number(rest, wanted, usize::MAX as u64).map(|n| n as usize)
+}
+
 fn read_ramp(rest: &[u8]) -> Result<FeedPlan, ReadError>
     ensures { ReadsBehind spoken_feed (λ ws. codes "feed" ∷ codes "ramp" ∷ ws) rest.now result }
 {
@@ -75,12 +82,8 @@ fn read_strip(rest: &[u8]) -> Result<StripPlan, ReadError>
 {
     let (kind, more) = next_word(rest);
     match kind {
-        b"records" => last_number(more, Wanted::RecordCount, u64::MAX).map(
-            |records| StripPlan::Records(records as usize),
-        ),
-        b"text" => last_number(more, Wanted::ByteCount, u64::MAX).map(|bytes| StripPlan::Text(
-            bytes as usize,
-        )),
+        b"records" => last_size(more, Wanted::RecordCount).map(StripPlan::Records),
+        b"text" => last_size(more, Wanted::ByteCount).map(StripPlan::Text),
         _ => Err(ReadError::UnknownStrip),
     }
 }

@@ -1,6 +1,6 @@
-use Rattle.std.proofs.Common.{◌≤◌, drop}
+use Rattle.std.proofs.Common.{◌≤◌}
 use Rattle.notation.proofs.Figures.{SoFar}
 use Rattle.notation.proofs.number.read_digits.Given as goal
 
 abbrev pub invariant-loop-at : goal.invariant-loop-at
-invariant-loop-at l = (l.number ≤ l.most) × SoFar l.digits (drop l.«at» l.digits) l.number
+invariant-loop-at l = (l.number ≤ l.most) × SoFar l.digits l.«at» l.number

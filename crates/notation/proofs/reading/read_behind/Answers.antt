@@ -1,6 +1,6 @@
-use Rattle.std.proofs.Common.{◌≡◌, ◌∷◌, rules, vec_items, codes, sym, subst, arith}
+use Rattle.std.proofs.Common.{◌≡◌, rules, vec_items, codes, arith}
 use Rattle.std.proofs.lemmas.Slice.Eq.{text_from_reads}
-use Rattle.notation.specs.Lines.{ReadsBehind, loads, opens, rewinds, runs, reports, spoken, spoken_call, spoken_feed, spoken_strip}
+use Rattle.notation.specs.Lines.{loads, opens, rewinds, runs, reports, spoken, spoken_call, spoken_feed, spoken_strip}
 use Rattle.notation.proofs.Behind.{mapped, load_read, open_read, rewind_read, run_read, report_read, at_verb, line-unknown}
 use Rattle.notation.proofs.reading.read_behind.Goals as goal
 

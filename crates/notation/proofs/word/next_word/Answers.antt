@@ -1,9 +1,8 @@
-use Rattle.std.proofs.Common.{◌≡◌, length, take, drop, rules, tests, ◌∙◌}
-use Rattle.std.specs.List.{prefix_len}
+use Rattle.std.proofs.Common.{rules, tests, ◌∙◌}
 use Rattle.std.proofs.lemmas.Iterator.{YieldsList-from_slice}
 use Rattle.std.proofs.lemmas.Iterator.Search.{YieldsList-from_take_while}
 use Rattle.std.proofs.lemmas.Iterator.Consumers.{count_from_yields_List}
-use Rattle.notation.specs.Words.{blank, solid, word, behind}
+use Rattle.notation.specs.Words.{blank, solid}
 use Rattle.notation.proofs.Cutting.{cut}
 use Rattle.notation.proofs.word.next_word.Goals as goal
 
