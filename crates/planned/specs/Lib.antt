@@ -2,3 +2,4 @@ pub mod Answers
 pub mod Carried
 pub mod Leaves
 pub mod Plans
+pub mod Sessions
