@@ -1,8 +1,7 @@
 -- What stands behind the first words of a line: where its reader refuses it, nothing stands there.
-use Rattle.std.proofs.Common.{◌≡◌, ℕ, ◌^◌, ◌<◌, ◌≤◌, Bool, true, false, cond, List, [], ◌∷◌, map, length, drop, ℤ, Ok, Err, codes, Option, Result, MatchResult, IsOkAnd, ◌≢◌, Vec, Global, vec_items, sym, refl, ap, ◌∙◌, subst, arith, w32, SFits}
+use Rattle.std.proofs.Common.{◌≡◌, ℕ, ◌^◌, ◌<◌, ◌≤◌, List, [], ◌∷◌, map, length, drop, ℤ, Ok, Err, codes, Option, Result, MatchResult, IsOkAnd, ◌≢◌, Vec, Global, vec_items, sym, refl, ap, ◌∙◌, subst, arith, w32, SFits}
 use Rattle.std.specs.Str.Parse.{digits_value}
 use Rattle.std.specs.List.{AllByRecursion}
-use Rattle.std.specs.Str.{bytes_eq}
 use Rattle.vocabulary.specs.declared.item.Item.{Item}
 use Rattle.ports.specs.declared.trace.Record.{Record}
 use Rattle.ports.specs.Traces.{items_of}
@@ -94,21 +93,6 @@ module _ (rest : List ℕ) where
 
   pub said_on : (first : List (List ℕ) → List (List ℕ)) (v : List ℕ) (s : Spoken) → word rest ≡ v → 0 < length v → (ws : List (List ℕ)) × Words (behind rest) ws × Say (first (v ∷ ws)) s → (ws : List (List ℕ)) × Words rest ws × Say (first ws) s
   said_on first v s e some p = (v ∷ p.0, (e, some, p.1), p.2)
-
-  -- no kind of strip, or of feed, that is known
-  pub strip-unknown : (word rest ≡ codes "records" → ⊥) → (word rest ≡ codes "text" → ⊥) → Unsaid (λ ws. codes "strip" ∷ ws) rest
-  strip-unknown a b s i ws w y =
-      let at-kind : (v : List ℕ) (vs : List (List ℕ)) → codes "strip" ∷ ws ≡ codes "strip" ∷ v ∷ vs → word rest ≡ v = λ v vs e. (subst (Words rest) (ap (drop 1) e) w).0 in
-      let split : (t : Bool) (m n : ℕ) → Say (codes "strip" ∷ ws) (cond t (record_strip m) (text_strip n)) → ⊥ =
-      λ t m n. elim t as (λ t. Say (codes "strip" ∷ ws) (cond t (record_strip m) (text_strip n)) → ⊥) [ true ↦ λ q. a (at-kind (codes "records") (q.0 ∷ []) q.1) | false ↦ λ q. b (at-kind (codes "text") (q.0 ∷ []) q.1) ] in
-      split (bytes_eq (at ws 0) (codes "records")) (digits_value 10 (at ws 1)) (digits_value 10 (at ws 1)) (as_heard (codes "strip" ∷ ws) s i y).1
-
-  pub feed-unknown : (word rest ≡ codes "trace" → ⊥) → (word rest ≡ codes "ramp" → ⊥) → Unsaid (λ ws. codes "feed" ∷ ws) rest
-  feed-unknown a b s i ws w y =
-      let at-kind : (v : List ℕ) (vs : List (List ℕ)) → codes "feed" ∷ ws ≡ codes "feed" ∷ v ∷ vs → word rest ≡ v = λ v vs e. (subst (Words rest) (ap (drop 1) e) w).0 in
-      let split : (t : Bool) (items : List Item) (p q : ℤ) (n : ℕ) → Say (codes "feed" ∷ ws) (cond t (trace_feed items) (ramp_feed p q n)) → ⊥ =
-      λ t items p q n. elim t as (λ t. Say (codes "feed" ∷ ws) (cond t (trace_feed items) (ramp_feed p q n)) → ⊥) [ true ↦ λ r. a (at-kind (codes "trace") r.0 r.1) | false ↦ λ r. b (at-kind (codes "ramp") (r.0 ∷ r.1 ∷ r.2 ∷ []) r.3) ] in
-      split (bytes_eq (at ws 0) (codes "trace")) (map item_in (drop 1 ws)) (signed_in (at ws 1)) (signed_in (at ws 2)) (digits_value 10 (at ws 3)) (as_heard (codes "feed" ∷ ws) s i y).1
 
 -- no first word that is known
 module _ (verb rest : List ℕ) (feed : verb ≡ codes "feed" → ⊥) (strip : verb ≡ codes "strip" → ⊥) (load : verb ≡ codes "load" → ⊥) (open' : verb ≡ codes "open" → ⊥) (rewind : verb ≡ codes "rewind" → ⊥) (run : verb ≡ codes "run" → ⊥) (report : verb ≡ codes "report" → ⊥) where

@@ -1,13 +1,12 @@
 -- Decimal digits, read one at a time: those before a place write the number so far.
-use Rattle.std.proofs.Common.{◌≡◌, ℕ, zero, suc, ◌+◌, ◌-◌, ◌*◌, ◌<◌, ◌≤◌, min, true, false, List, [], ◌∷◌, ◌++◌, length, get_or, take, drop, ℤ, pos, neg_ℤ, sym, refl, ap, ◌∙◌, ⊎_elim, subst, arith, w32, SFits}
-use lib.Signed.{mag}
+use Rattle.std.proofs.Common.{◌≡◌, ℕ, ◌+◌, ◌-◌, ◌*◌, ◌<◌, ◌≤◌, min, List, [], ◌∷◌, ◌++◌, length, get_or, take, drop, ℤ, sym, refl, ap, ◌∙◌, ⊎_elim, subst, arith}
 use Rattle.std.specs.Str.Parse.{AllDigits, digits_value_after, digits_value, starts_with_minus}
 use Rattle.std.specs.Char.{digit_value}
 use Rattle.std.specs.Int.{IsInRange, IsOutOfRange}
 use Rattle.std.proofs.lemmas.List.{drop_more, take_more, take_all, take-append-drop, length-drop, length-take-le}
 use Rattle.std.proofs.lemmas.Str.Parse.{digit_at}
 use Rattle.std.proofs.lemmas.Str.{digit_value_digit}
-use Rattle.std.proofs.lemmas.Bool.{cond-true, cond-false, cond_both}
+use Rattle.std.proofs.lemmas.Bool.{cond_both}
 use Rattle.notation.specs.declared.error.WordError.TheVariants.{NoDigit, OutOfRange}
 use Rattle.notation.specs.Numbers.{Unsigned, Signed, figures, DigitsError}
 
@@ -78,22 +77,6 @@ pub so_far_all : (all : List ℕ) (at n : ℕ) → SoFar all at n → length all
 so_far_all all at n s h some =
     let e = take_all at all h in
     ((some, subst (AllDigits 10) e s.plain), sym (ap (digits_value 10) e) ∙ s.value)
-
-neg_small : (n : ℕ) → mag (neg_ℤ (pos n)) < 2147483648 → n ≤ 2147483648
-neg_small zero h = omega arith
-neg_small (suc n) h = omega arith
-
--- a number below 0 is at least the least of 32 bits, and any other at most the greatest
-module _ (word : List ℕ) (z : ℤ) (fits : SFits w32 z) (s : Signed word z) where
-  pub minus_bad : starts_with_minus word ≡ true → ((n : ℕ) → n ≤ 2147483648 → Unsigned (drop 1 word) n → ⊥) → ⊥
-  minus_bad m none =
-      let small : mag (neg_ℤ (pos s.0)) < 2147483648 = subst (λ y. mag y < 2147483648) (s.2 ∙ cond-true _ _ _ m) fits.sfits in
-      none s.0 (neg_small s.0 small) (subst (λ w. Unsigned w s.0) (cond-true _ _ _ m) s.1)
-
-  pub plain_bad : starts_with_minus word ≡ false → ((n : ℕ) → n ≤ 2147483647 → Unsigned word n → ⊥) → ⊥
-  plain_bad m none =
-      let small : s.0 < 2147483648 = subst (λ y. mag y < 2147483648) (s.2 ∙ cond-false _ _ _ m) fits.sfits in
-      none s.0 (omega arith) (subst (λ w. Unsigned w s.0) (cond-false _ _ _ m) s.1)
 
 pub signed_some : (word : List ℕ) (z : ℤ) → Signed word z → 0 < length word
 signed_some word z s =

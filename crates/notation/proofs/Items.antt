@@ -1,14 +1,10 @@
 -- The items of a trace, word by word: the words before `left` stand for the items so far, and items that stand in the line leave items that stand in `left`.
-use Rattle.std.proofs.Common.{◌≡◌, ℕ, zero, suc, ◌+◌, ◌<◌, ◌≤◌, true, false, cond, eqb, List, [], ◌∷◌, ◌++◌, length, get_or, drop, ℤ, codes, sym, refl, ap, ◌∙◌, subst, append_assoc, append-nil, arith, w32, SFits}
+use Rattle.std.proofs.Common.{◌≡◌, ℕ, suc, ◌+◌, ◌<◌, ◌≤◌, true, false, cond, List, [], ◌∷◌, ◌++◌, length, sym, refl, ap, subst, append_assoc, append-nil, arith}
 use Rattle.std.specs.List.{AllByRecursion}
-use Rattle.std.proofs.lemmas.Bool.{cond_both, both_ways}
+use Rattle.std.proofs.lemmas.Bool.{cond_both}
 use Rattle.vocabulary.specs.declared.item.Item.{Item}
-use Rattle.vocabulary.specs.declared.item.Item.TheVariants.{Reading, Fault}
-use Rattle.ports.specs.Traces.{coded}
 use Rattle.notation.specs.Lines.{ItemRange, IsItem, AreItems}
-use Rattle.notation.specs.Numbers.{Unsigned, Signed}
 use Rattle.notation.specs.Words.{blank, solid, trimmed, front, rest, word, behind, Words}
-use Rattle.notation.proofs.Heard.{not_fault}
 
 -- a line gets shorter with each word
 length_front : (xs : List ℕ) → length (front xs) + length (rest xs) ≡ length xs
@@ -60,18 +56,3 @@ module _ (line left : List ℕ) (items : List Item) (l : Listed line left items)
       back = λ ws w. subst (Words line) (sym (append_assoc l.done (word left ∷ []) ws)) (l.back (word left ∷ ws) (refl, some, w));
       on = λ xs r ws w a. let p = l.on xs r ws w a in let f = first_left p.0 p.1 p.2.0 p.2.1 p.2.2 in (f.1, f.5, (f.2, f.6, f.7));
     }
-
--- one item
-pub coded_fault : (word : List ℕ) (code : ℕ) (z : ℤ) → 0 < code → word ≡ codes "fault:" ++ drop 6 word → Unsigned (drop 6 word) code → IsItem word (coded code z)
-coded_fault word zero z some e u = absurd (omega arith)
-coded_fault word (suc n) z some e u = (drop 6 word, e, u)
-
-module _ (word : List ℕ) (fault : word ≡ codes "fault:" ++ drop 6 word) where
-  pub fault_bad : ((n : ℕ) → n ≤ 255 → Unsigned (drop 6 word) n → 0 < n → ⊥) → (x : Item) → ItemRange x → IsItem word x → ⊥
-  fault_bad none (Reading z) r i = both_ways (eqb (get_or word 0 0) 102) (not_fault word z i) (ap (λ w. eqb (get_or w 0 0) 102) fault)
-  fault_bad none (Fault f) r i = let small = r.1 in none f.code (omega arith) (subst (λ ds. Unsigned ds f.code) (sym (ap (drop 6) i.1)) i.2) r.0
-
-module _ (word : List ℕ) (plain : word ≡ codes "fault:" ++ drop 6 word → ⊥) where
-  pub reading_bad : ((z : ℤ) → SFits w32 z → Signed word z → ⊥) → (x : Item) → ItemRange x → IsItem word x → ⊥
-  reading_bad none (Reading z) r i = none z r i
-  reading_bad none (Fault f) r i = plain (i.1 ∙ ap (λ ds. codes "fault:" ++ ds) (sym (ap (drop 6) i.1)))

@@ -5,4 +5,4 @@ pub mod Heard
 pub mod Written
 pub mod Behind
 pub mod Items
-pub mod Spelling
+pub mod Missed

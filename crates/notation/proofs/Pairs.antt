@@ -1,11 +1,13 @@
 -- Hex digits, taken pair by pair: the bytes so far and what is left of the word make up the word.
-use Rattle.std.proofs.Common.{◌≡◌, ℕ, zero, suc, ◌+◌, ◌*◌, ◌/◌, ◌%◌, ◌^◌, ◌-◌, ◌<◌, false, eqb, List, [], ◌∷◌, ◌++◌, length, get_or, take, drop, map, codes, sym, refl, ap, ◌∙◌, arith}
-use Rattle.std.proofs.lemmas.List.{take_more, nil_from_length}
+use Rattle.std.proofs.Common.{◌≡◌, ℕ, zero, suc, ◌+◌, ◌*◌, ◌/◌, ◌%◌, ◌^◌, ◌-◌, ◌<◌, ◌≤◌, false, eqb, List, [], ◌∷◌, ◌++◌, length, get_or, take, drop, map, sym, refl, ap, ◌∙◌, append_assoc, length-append, arith}
+use Rattle.std.proofs.lemmas.List.{take_more, nil_from_length, length-take-le, length-map}
+use Rattle.std.proofs.ByRecursion.{All-append}
+use Rattle.std.specs.List.{AllByRecursion}
 use Rattle.std.specs.Simd.{first_chunks}
 use Rattle.std.specs.Fmt.{digits, padded_integral, format_spec}
 use Rattle.std.proofs.lemmas.Fmt.{hex_byte}
 use Rattle.std.proofs.lemmas.Bool.{eqb-false}
-use Rattle.notation.specs.Hex.{hex_digit, hex_digits, hex_text, Bytes}
+use Rattle.notation.specs.Hex.{hex_digit, hex_digits, Bytes, IsHexDigit, FirstNoDigit}
 
 pub digits_append : (xs ys : List ℕ) → hex_digits (xs ++ ys) ≡ hex_digits xs ++ hex_digits ys
 digits_append [] ys = refl
@@ -43,37 +45,56 @@ byte_at (suc k) (b ∷ bs) h l = byte_at k bs h.1 (omega arith)
 pub odd_bad : (word alone : List ℕ) → length alone ≡ length word % 2 → false ≡ eqb (length alone) 0 → (bytes : List ℕ) → word ≡ hex_digits bytes → ⊥
 odd_bad word alone rest odd bytes e = let l : length word ≡ 2 * length bytes = ap length e ∙ length_digits bytes in eqb-false (length alone) 0 (sym odd) (omega arith)
 
+-- the word, cut at the pair at place k
+chunk_cut : (n k : ℕ) (xs items : List ℕ) → k < n → n * 2 ≤ length xs → take k (first_chunks 2 n xs) ≡ map pair_of items → (tail : List ℕ) × (xs ≡ hex_digits items ++ (get_or (first_chunks 2 n xs) k [] ++ tail))
+chunk_cut zero k xs items h l e = absurd (omega arith)
+chunk_cut (suc n) k [] items h l e = absurd (omega arith)
+chunk_cut (suc n) k (x ∷ []) items h l e = absurd (omega arith)
+chunk_cut (suc n) zero (x ∷ y ∷ xs) [] h l e = (xs, refl)
+chunk_cut (suc n) zero (x ∷ y ∷ xs) (b ∷ bs) h l e = absurd (cc)
+chunk_cut (suc n) (suc k) (x ∷ y ∷ xs) [] h l e = absurd (cc)
+chunk_cut (suc n) (suc k) (x ∷ y ∷ xs) (b ∷ bs) h l e =
+    let f : take k (first_chunks 2 n xs) ≡ map pair_of bs = cc in
+    let p = chunk_cut n k xs bs (omega arith) (omega arith) f in
+    let high : x ≡ hex_digit (b / 16) = cc in
+    let low : y ≡ hex_digit (b % 16) = cc in
+    (p.0, rw (high, low) (ap (λ t. hex_digit (b / 16) ∷ hex_digit (b % 16) ∷ t) p.1))
+
+all_digits : (bs : List ℕ) → Bytes bs → AllByRecursion IsHexDigit (hex_digits bs)
+all_digits [] h = tt
+all_digits (b ∷ bs) h = let small = h.0 in ((b / 16, omega arith, refl), ((b % 16, omega arith, refl), all_digits bs h.1))
+
 module _ (word : List ℕ) (pairs : List (List ℕ)) (front : pairs ≡ first_chunks 2 (length word / 2) word) where
   pub pairs_all : (items : List ℕ) → length word % 2 ≡ 0 → pairs ≡ map pair_of items → word ≡ hex_digits items
   pairs_all items even e = joined (length word / 2) word items (omega arith) (sym front ∙ e)
 
-  pub pair_bad : (k : ℕ) → k < length pairs → ((b : ℕ) → b < 256 → get_or pairs k [] ≡ pair_of b → ⊥) → (bytes : List ℕ) → Bytes bytes → word ≡ hex_digits bytes → ⊥
-  pair_bad k h none bytes small e =
-      let l : length word ≡ 2 * length bytes = ap length e ∙ length_digits bytes in
-      let n : length word / 2 ≡ length bytes = omega arith in
-      let m = ap length front ∙ length-first_chunks (length word / 2) word in
-      let p : pairs ≡ map pair_of bytes = front ∙ ap (λ m. first_chunks 2 m word) n ∙ ap (first_chunks 2 (length bytes)) e ∙ chunked bytes in
-      let b = byte_at k bytes small (omega arith) in
-      none b.0 b.1 (ap (λ t. get_or t k []) p ∙ b.2)
+  module _ (k : ℕ) (h : k < length pairs) where
+    pub pair_bad : ((b : ℕ) → b < 256 → get_or pairs k [] ≡ pair_of b → ⊥) → (bytes : List ℕ) → Bytes bytes → word ≡ hex_digits bytes → ⊥
+    pair_bad none bytes small e =
+        let l : length word ≡ 2 * length bytes = ap length e ∙ length_digits bytes in
+        let n : length word / 2 ≡ length bytes = omega arith in
+        let m = ap length front ∙ length-first_chunks (length word / 2) word in
+        let p : pairs ≡ map pair_of bytes = front ∙ ap (λ m. first_chunks 2 m word) n ∙ ap (first_chunks 2 (length bytes)) e ∙ chunked bytes in
+        let b = byte_at k bytes small (omega arith) in
+        none b.0 b.1 (ap (λ t. get_or t k []) p ∙ b.2)
 
--- a word that is neither empty nor '-' is the text of bytes where it is their digits
-module _ (word : List ℕ) (some : word ≡ [] → ⊥) (other : word ≡ codes "-" → ⊥) where
-  pub text_from_digits : (bytes : List ℕ) → word ≡ hex_digits bytes → word ≡ hex_text bytes
-  text_from_digits [] e = absurd (some e)
-  text_from_digits (b ∷ bs) e = e
-
-  pub digits_from_text : (bytes : List ℕ) → word ≡ hex_text bytes → word ≡ hex_digits bytes
-  digits_from_text [] e = absurd (other e)
-  digits_from_text (b ∷ bs) e = e
-
-pub text_some : (bytes : List ℕ) → hex_text bytes ≡ [] → ⊥
-text_some [] e = let z : ◌≡◌ {A = ℕ} 0 1 = cc in omega arith
-text_some (b ∷ bs) e = let z : ◌≡◌ {A = ℕ} 0 1 = cc in omega arith
+    -- the first byte of the pair that is no digit is that of the word
+    pub pair_fault : (items : List ℕ) → Bytes items → take k pairs ≡ map pair_of items → (place found : ℕ) → FirstNoDigit (get_or pairs k []) (2 * k) place found → FirstNoDigit word 0 place found
+    pair_fault items small e place found f =
+        let m = ap length front ∙ length-first_chunks (length word / 2) word in
+        let c = chunk_cut (length word / 2) k word items (omega arith) (omega arith) (ap (take k) (sym front) ∙ e) in
+        let d = simp length-map at (ap length e) in
+        let g = length-take-le k pairs (omega arith) in
+        let s : get_or (first_chunks 2 (length word / 2) word) k [] ≡ f.0 ++ found ∷ f.1 = ap (λ t. get_or t k []) (sym front) ∙ f.2 in
+        let t = length_digits items in (
+          hex_digits items ++ f.0,
+          f.1 ++ c.0,
+          c.1 ∙ ap (λ t. hex_digits items ++ (t ++ c.0)) s ∙ ap (λ t. hex_digits items ++ t) (append_assoc f.0 (found ∷ f.1) c.0) ∙ sym (append_assoc (hex_digits items) f.0 (found ∷ f.1 ++ c.0)),
+          All-append IsHexDigit (hex_digits items) f.0 (all_digits items small) f.3,
+          f.4,
+          let p = f.5 in let q = length-append (hex_digits items) f.0 in omega arith,
+        )
 
 -- writing
 pub digits_more : (bytes : List ℕ) (i : ℕ) → i < length bytes → get_or bytes i 0 < 256 → hex_digits (take i bytes) ++ padded_integral (format_spec 32 0 4 2 (2 ^ 64 - 1)) false [] (digits 16 false (get_or bytes i 0)) ≡ hex_digits (take (i + 1) bytes)
 digits_more bytes i h small = ap (λ t. hex_digits (take i bytes) ++ t) (hex_byte false (get_or bytes i 0) small) ∙ sym (ap hex_digits (take_more bytes i 0 h) ∙ digits_append (take i bytes) (get_or bytes i 0 ∷ []))
-
-pub text_is_digits : (bytes : List ℕ) → (length bytes ≡ 0 → ⊥) → hex_text bytes ≡ hex_digits bytes
-text_is_digits [] h = absurd (h refl)
-text_is_digits (b ∷ bs) h = refl

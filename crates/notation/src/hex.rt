@@ -1,7 +1,9 @@
 // Bytes in hex digits, two a byte, and `-` for no bytes.
-ghost use Rattle.std.specs.Prelude.{◌≡◌, ℕ, ◌+◌, ◌*◌, ◌<◌, List, [], ◌∷◌, IfOk, string_bytes, MatchOption, MatchResult, ◌≢◌, Some};
-ghost use Rattle.notation.specs.declared.error.ReadError.TheVariants.{Memory};
-ghost use Rattle.notation.specs.Hex.{Bytes, hex_digit, hex_digits, hex_text};
+ghost use Rattle.std.specs.Prelude.{◌≡◌, ℕ, ◌^◌, ◌<◌, ◌⊎◌, List, [], ◌∷◌, IfOk, IfErr, string_bytes, MatchOption, MatchResult, ◌≢◌, Some};
+ghost use Rattle.notation.specs.declared.error.ReadError.TheVariants.{Memory, Word};
+ghost use Rattle.notation.specs.declared.error.WordError.{WordError};
+ghost use Rattle.notation.specs.declared.error.WordError.TheVariants.{NoHexDigit};
+ghost use Rattle.notation.specs.Hex.{Bytes, FirstNoDigit, hex_digit, hex_digits, hex_text, HexError};
 
 use crate::error::{ReadError, Shown, Wanted, WordError};
 use std::alloc::{AllocError, Global};
@@ -18,20 +20,22 @@ fn digit_value(byte: u8) -> Option<u8>
     }
 }
 
-// The byte of two digits; so many bytes of the word stand before them.
+// The byte of two digits, behind so many bytes of the word.
 fn read_byte(pair: &[u8; 2], before: usize) -> Result<u8, WordError>
-    ensures { MatchResult result (λ b. pair.now ≡ hex_digits (b ∷ [])) (λ _. (b : ℕ) → b < 256 → pair.now ≢ hex_digits (b ∷ [])) }
+    requires { before < 2 ^ 63 }
+    ensures byte { MatchResult result (λ b. pair.now ≡ hex_digits (b ∷ [])) (λ _. (b : ℕ) → b < 256 → pair.now ≢ hex_digits (b ∷ [])) }
+    ensures fault { IfErr result (λ e. (place : ℕ) × (found : ℕ) × (e ≡ NoHexDigit place record { 0 = found }) × FirstNoDigit pair.now before place found) }
 {
     let [high, low] = *pair;
     let Some(h) = digit_value(high) else {
         return Err(WordError::NoHexDigit {
-            place: before.saturating_add(1),
+            place: before + 1,
             found: Shown(high),
         });
     };
     let Some(l) = digit_value(low) else {
         return Err(WordError::NoHexDigit {
-            place: before.saturating_add(2),
+            place: before + 2,
             found: Shown(low),
         });
     };
@@ -39,7 +43,8 @@ fn read_byte(pair: &[u8; 2], before: usize) -> Result<u8, WordError>
 }
 
 fn read_pairs(heap: Global, word: &[u8], wanted: Wanted) -> Result<Vec<u8>, ReadError>
-    ensures { MatchResult result (λ bytes. word.now ≡ hex_digits bytes.items) (λ e. (e ≢ Memory) → (bytes : List ℕ) → Bytes bytes → word.now ≢ hex_digits bytes) }
+    ensures bytes { MatchResult result (λ bytes. word.now ≡ hex_digits bytes.items) (λ e. (e ≢ Memory) → (bytes : List ℕ) → Bytes bytes → word.now ≢ hex_digits bytes) }
+    ensures fault { IfErr result (λ e. (e ≡ Memory) ⊎ ((w : WordError) × (e ≡ Word wanted w) × HexError word.now w)) }
 {
     let (pairs, alone) = word.as_chunks::<2>();
     if !alone.is_empty() {
@@ -55,7 +60,8 @@ fn read_pairs(heap: Global, word: &[u8], wanted: Wanted) -> Result<Vec<u8>, Read
 
 // The bytes of a word, which is the text of just these; refused where it is the text of no bytes.
 pub fn read_hex(heap: Global, word: &[u8], wanted: Wanted) -> Result<Vec<u8>, ReadError>
-    ensures { MatchResult result (λ bytes. word.now ≡ hex_text bytes.items) (λ e. (e ≢ Memory) → (bytes : List ℕ) → Bytes bytes → word.now ≢ hex_text bytes) }
+    ensures bytes { MatchResult result (λ bytes. word.now ≡ hex_text bytes.items) (λ e. (e ≢ Memory) → (bytes : List ℕ) → Bytes bytes → word.now ≢ hex_text bytes) }
+    ensures fault { IfErr result (λ e. (e ≡ Memory) ⊎ ((w : WordError) × (e ≡ Word wanted w) × HexError word.now w)) }
 {
     match word {
         [] => Err(wanted.missed(WordError::Missing)),

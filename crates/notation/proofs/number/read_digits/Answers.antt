@@ -1,11 +1,8 @@
 use Rattle.std.proofs.Common.{◌≡◌, Err, rules, ◌+◌, ◌-◌, ◌*◌, ◌<◌, ◌≤◌, length, get_or, sym, subst, arith}
 use Rattle.std.proofs.lemmas.Bool.{eqb-false}
 use Rattle.notation.specs.declared.error.WordError.TheVariants.{OutOfRange}
-use Rattle.notation.proofs.Figures.{SoFar, begun, so_far_more, so_far_all, digit_bad, too_large, too_large_at, no_digit_at}
+use Rattle.notation.proofs.Figures.{SoFar, so_far_more, so_far_all, digit_bad, too_large, too_large_at, no_digit_at}
 use Rattle.notation.proofs.number.read_digits.Goals as goal
-
-pub loop-at-init : goal.loop-at-init
-loop-at-init c = (omega arith, begun c.args.digits.now)
 
 pub returns-then-not-is_ascii_digit : goal.returns-then-not-is_ascii_digit
 returns-then-not-is_ascii_digit c =

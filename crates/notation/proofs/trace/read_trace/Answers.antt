@@ -6,11 +6,8 @@ use Rattle.ports.specs.Traces.{item_of, items_of}
 use Rattle.notation.specs.Lines.{IsItem}
 use Rattle.notation.specs.Words.{word, behind}
 use Rattle.notation.proofs.Cutting.{word_none, word_some}
-use Rattle.notation.proofs.Items.{Listed, behind_shorter, listed_all, listed_bad, listed_more, listed_none}
+use Rattle.notation.proofs.Items.{Listed, behind_shorter, listed_all, listed_bad, listed_more}
 use Rattle.notation.proofs.trace.read_trace.Goals as goal
-
-pub loop-word-init : goal.loop-word-init
-loop-word-init c = subst (λ rs. Listed c.args.line.now c.args.line.now (items_of rs)) (sym c.new-records.ensures.items) (listed_none c.args.line.now)
 
 pub returns-then-is_empty : goal.returns-then-is_empty
 returns-then-is_empty c =
