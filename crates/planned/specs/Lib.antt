@@ -1,2 +1,5 @@
 pub mod Answers
+pub mod Carried
 pub mod Leaves
+pub mod Plans
+pub mod Sessions

@@ -1,4 +1,11 @@
 // Work between a feed and a strip that are planned, and what it leaves there.
+ghost use Rattle.std.specs.Prelude.{◌≡◌, ◌-◌, ◌≤◌, [], length, take, IfOk};
+ghost use Rattle.vocabulary.specs.World.{Rules, rules};
+ghost use Rattle.machine.specs.Seen.{between};
+ghost use Rattle.machine.specs.State.{Ports, ports};
+ghost use Rattle.planned.specs.Carried.{Carried, left_ports, planned_rules, planned_space};
+ghost use Rattle.planned.specs.declared.carry.CarryError.TheVariants.{Refused};
+
 use notation::plan::{FeedPlan, StripPlan};
 use ports::feed::Feed;
 use ports::lent::{Element, LentStrip};
@@ -15,11 +22,16 @@ pub trait Job {
     type Answer: Drop;
     type Error: From<AllocError> + Drop;
 
+    // What work with this answer does, by the rules of the strip, between feed and strip before and after it.
+    ghost does: { Self → Self.Answer → Rules → Ports → Ports → Type 0 };
+
     fn work<F: Feed, S: Strip>(
         &self,
         feed: &mut F,
         strip: &mut S,
-    ) -> Result<Self::Answer, Self::Error>;
+    ) -> Result<Self::Answer, Self::Error>
+        ensures done { IfOk result (λ answer. does self.now answer (rules S.Strip.price) (between F.Feed S.Strip feed.old strip.old) (between F.Feed S.Strip feed.new strip.new)) }
+        ensures kept { S.Strip.keeps strip.old strip.new };
 }
 
 // Why work was not carried out.
@@ -32,6 +44,8 @@ pub enum CarryError<E> {
 }
 
 impl<E> From<Refusal> for CarryError<E> {
+    ghost from_gives = { λ refusal e. e ≡ Refused refusal };
+
     fn from(refusal: Refusal) -> CarryError<E> {
         CarryError::Refused(refusal)
     }
@@ -60,7 +74,9 @@ pub struct Outcome<T> {
 }
 
 // The items that wait, all of them.
-fn drain<F: Feed>(heap: Global, feed: &mut F) -> Result<Vec<Item>, AllocError> {
+fn drain<F: Feed>(heap: Global, feed: &mut F) -> Result<Vec<Item>, AllocError>
+    ensures { IfOk result (λ items. items.items ≡ F.Feed.waiting feed.old) }
+{
     let mut items = Vec::new(heap);
     while let Some(item) = feed.take() {
         items.push(item)?;
@@ -68,19 +84,31 @@ fn drain<F: Feed>(heap: Global, feed: &mut F) -> Result<Vec<Item>, AllocError> {
     Ok(items)
 }
 
-// Has the job work onto a strip over `size` elements, and gives what it answers, and the elements that are filled then.
+// Has the job work onto a strip over this memory, and says what it answers and how much of the memory is filled then.
+fn work_onto<T: Element, F: Feed, J: Job>(
+    job: &J,
+    feed: &mut F,
+    memory: &mut [T],
+) -> Result<(J::Answer, usize), J::Error>
+    ensures { IfOk result (λ r. (r.1 ≤ length memory.new) × J.does job.now r.0 (rules T.Element.price) (ports (F.Feed.waiting feed.old) [] (length memory.old)) (ports (F.Feed.waiting feed.new) (T.Element.said (take r.1 memory.new)) (length memory.new - r.1))) }
+{
+    let mut strip = LentStrip::new(memory);
+    let answer = job.work(feed, &mut strip)?;
+    Ok((answer, strip.used()))
+}
+
+// The same over `size` fresh elements; of these it gives those that are filled.
 fn onto<T: Element, F: Feed, J: Job>(
     heap: Global,
     job: &J,
     feed: &mut F,
     blank: T,
     size: usize,
-) -> Result<(J::Answer, Vec<T>), J::Error> {
+) -> Result<(J::Answer, Vec<T>), J::Error>
+    ensures { IfOk result (λ r. (length r.1.items ≤ size) × J.does job.now r.0 (rules T.Element.price) (ports (F.Feed.waiting feed.old) [] size) (ports (F.Feed.waiting feed.new) (T.Element.said r.1.items) (size - length r.1.items))) }
+{
     let mut memory = vec![in heap; blank; size]?;
-    let (answer, used) = {
-        let mut strip = LentStrip::new(memory.as_mut_slice());
-        (job.work(feed, &mut strip)?, strip.used())
-    };
+    let (answer, used) = work_onto(job, feed, memory.as_mut_slice())?;
     memory.truncate(used);
     Ok((answer, memory))
 }
@@ -91,17 +119,19 @@ fn onto_strip<F: Feed, J: Job>(
     job: &J,
     feed: &mut F,
     strip: StripPlan,
-) -> Result<Outcome<J::Answer>, J::Error> {
+) -> Result<Outcome<J::Answer>, J::Error>
+    ensures { IfOk result (λ o. J.does job.now o.answer (planned_rules strip) (ports (F.Feed.waiting feed.old) [] (planned_space strip)) (left_ports o.left)) }
+{
     let (answer, filled, space) = match strip {
         StripPlan::Records(size) => {
             let blank = OutRecord { sort: 0, number: 0 };
             let (answer, records) = onto(heap, job, feed, blank, size)?;
-            let space = size.saturating_sub(records.len());
+            let space = size - records.len();
             (answer, Filled::Records(records), space)
         }
         StripPlan::Text(size) => {
             let (answer, text) = onto(heap, job, feed, 0u8, size)?;
-            let space = size.saturating_sub(text.len());
+            let space = size - text.len();
             (answer, Filled::Text(text), space)
         }
     };
@@ -120,7 +150,9 @@ pub fn carry_out<J: Job>(
     job: &J,
     feed: &FeedPlan,
     strip: StripPlan,
-) -> Result<Outcome<J::Answer>, CarryError<J::Error>> {
+) -> Result<Outcome<J::Answer>, CarryError<J::Error>>
+    ensures { Carried (λ answer before after. J.does job.now answer (planned_rules strip) before after) feed.now strip result }
+{
     let outcome = match feed {
         FeedPlan::Trace(records) => {
             let mut trace = Trace::new(records.as_slice());

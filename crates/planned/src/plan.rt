@@ -1,4 +1,10 @@
 // The plan of a session: one feed and one strip, and then calls.
+ghost use Rattle.std.specs.Prelude.{◌≡◌, Some, MatchOption, MatchResult};
+ghost use Rattle.notation.specs.declared.error.ReadError.TheVariants.{Memory};
+ghost use Rattle.notation.specs.declared.plan.Line.TheVariants.{Call};
+ghost use Rattle.planned.specs.declared.plan.PlanError.TheVariants.{Line as BadLine};
+ghost use Rattle.planned.specs.Plans.{Adds, Finishes, Reads, nothing_planned, planned};
+
 use notation::error::ReadError;
 use notation::line::read_line;
 use notation::plan::{CallPlan, FeedPlan, Line, StripPlan};
@@ -37,19 +43,25 @@ pub enum PlanError {
 }
 
 impl From<ReadError> for PlanError {
+    ghost from_gives = { λ error e. e ≡ BadLine error };
+
     fn from(error: ReadError) -> PlanError {
         PlanError::Line(error)
     }
 }
 
 impl<T: Drop> From<AllocFailed<T>> for PlanError {
+    ghost from_gives = { λ _ e. e ≡ BadLine Memory };
+
     fn from(_e: AllocFailed<T>) -> PlanError {
         PlanError::Line(ReadError::Memory)
     }
 }
 
 // Fills a place that is empty; a second value is refused.
-fn fill<T: Drop>(place: &mut Option<T>, value: T, second: PlanError) -> Result<(), PlanError> {
+fn fill<T: Drop>(place: &mut Option<T>, value: T, second: PlanError) -> Result<(), PlanError>
+    ensures { MatchOption place.old ((result ≡ Ok tt) × (place.new ≡ Some value)) (λ x. (result ≡ Err second) × (place.new ≡ place.old)) }
+{
     match place {
         Some(_) => Err(second),
         None => {
@@ -60,7 +72,9 @@ fn fill<T: Drop>(place: &mut Option<T>, value: T, second: PlanError) -> Result<(
 }
 
 impl Plan {
-    pub fn new(heap: Global) -> Plan {
+    pub fn new(heap: Global) -> Plan
+        ensures { planned result ≡ nothing_planned }
+    {
         Plan {
             feed: None,
             strip: None,
@@ -68,7 +82,9 @@ impl Plan {
         }
     }
 
-    fn add_call(&mut self, call: CallPlan) -> Result<(), PlanError> {
+    fn add_call(&mut self, call: CallPlan) -> Result<(), PlanError>
+        ensures { Adds (Call call) (planned self.old) (planned self.new) result }
+    {
         let (Some(_), Some(_)) = (&self.feed, &self.strip) else {
             return Err(PlanError::CallTooEarly);
         };
@@ -77,7 +93,9 @@ impl Plan {
     }
 
     // Takes in what a line says.
-    pub fn add(&mut self, line: Line) -> Result<(), PlanError> {
+    pub fn add(&mut self, line: Line) -> Result<(), PlanError>
+        ensures { Adds line (planned self.old) (planned self.new) result }
+    {
         match line {
             Line::Feed(feed) => fill(&mut self.feed, feed, PlanError::SecondFeed),
             Line::Strip(strip) => fill(&mut self.strip, strip, PlanError::SecondStrip),
@@ -86,7 +104,9 @@ impl Plan {
     }
 
     // Takes in a line of text.
-    pub fn read(&mut self, heap: Global, text: &[u8]) -> Result<(), PlanError> {
+    pub fn read(&mut self, heap: Global, text: &[u8]) -> Result<(), PlanError>
+        ensures { Reads text.now (planned self.old) (planned self.new) result }
+    {
         match read_line(heap, text)? {
             Some(line) => self.add(line),
             None => Ok(()),
@@ -94,7 +114,9 @@ impl Plan {
     }
 
     // The session, once there are a feed and a strip.
-    pub fn finish(self) -> Option<Session> {
+    pub fn finish(self) -> Option<Session>
+        ensures { Finishes (planned self) result }
+    {
         let Plan { feed, strip, calls } = self;
         match (feed, strip) {
             (Some(feed), Some(strip)) => Some(Session { feed, strip, calls }),

@@ -77,66 +77,73 @@ impl fmt::Display for AsValue {
     }
 }
 
-// Writes a line for each answer, as `shown` shows it.
-fn answer_lines<T: fmt::Display + Drop, F: Fn(Answer) -> T>(
-    heap: Global,
-    answers: &[Answer],
+// Writes each of `items` as `shown` shows it, between these texts.
+pub fn push_each<T: Copy, D: fmt::Display + Drop, F: Fn(T) -> D>(
+    text: &mut String,
+    items: &[T],
+    before: &str,
     shown: F,
-) -> Result<String, AllocError>
+    after: &str,
+) -> Result<(), AllocError>
     requires { F.IsAlwaysCallable shown }
-    ensures { (line : Answer → List ℕ) → ((a : Answer) (t : T) → F.post shown a t → T.output t ≡ Some (line a)) → IfOk result (λ text. string_bytes text ≡ flat_map (λ a. line a ++ (10 ∷ [])) answers.now) }
+    ensures { (piece : T → List ℕ) → ((a : T) (d : D) → F.post shown a d → (word : List ℕ) × (D.output d ≡ Some word) × (piece a ≡ before.now ++ (word ++ after.now))) → OnOk result (string_bytes text.new ≡ string_bytes text.old ++ flat_map piece items.now) }
 {
-    let mut text = String::new(heap);
-    for answer in answers {
-        text.writeln(shown(*answer))?;
+    for item in items {
+        let word = shown(*item);
+        write!(text, "{before}{word}{after}")?;
     }
-    Ok(text)
+    Ok(())
 }
 
 // The answers of a session in numbers, a line each.
 pub fn answers_in_numbers(heap: Global, answers: &[Answer]) -> Result<String, AllocError>
     ensures { IfOk result (λ text. string_bytes text ≡ answers_text answers.now) }
 {
-    answer_lines(heap, answers, InNumbers)
+    let mut text = String::new(heap);
+    push_each(&mut text, answers, "", InNumbers, "\n")?;
+    Ok(text)
 }
 
 // The same as sentences.
 pub fn answers_in_words(heap: Global, answers: &[Answer]) -> Result<String, AllocError> {
-    answer_lines(heap, answers, |answer| answer)
-}
-
-// Writes a word for each of `items`, as `word` gives it, behind a blank.
-pub fn push_words<T: Copy, D: fmt::Display + Drop, F: Fn(T) -> D>(
-    text: &mut String,
-    items: &[T],
-    word: F,
-) -> Result<(), AllocError>
-    requires { F.IsAlwaysCallable word }
-    ensures { (said : T → List ℕ) → ((a : T) (t : D) → F.post word a t → D.output t ≡ Some (said a)) → OnOk result (string_bytes text.new ≡ string_bytes text.old ++ flat_map (λ a. 32 ∷ said a) items.now) }
-{
-    for item in items {
-        let shown = word(*item);
-        write!(text, " {shown}")?;
-    }
-    Ok(())
+    let mut text = String::new(heap);
+    push_each(&mut text, answers, "", |answer| answer, "\n")?;
+    Ok(text)
 }
 
 // The items, each behind a blank.
 pub fn push_items(text: &mut String, items: &[Item]) -> Result<(), AllocError>
     ensures { OnOk result (string_bytes text.new ≡ string_bytes text.old ++ items_text items.now) }
 {
-    push_words(text, items, AsWord)
+    push_each(text, items, " ", AsWord, "")
+}
+
+// What stands before a byte of a line: a blank before the first.
+fn before(begins: bool) -> &'static str
+    ensures { result.now ≡ (if begins then 32 ∷ [] else []) }
+{
+    if begins { " " } else { "" }
+}
+
+// A byte of a line, and nothing for the byte that ends it.
+fn push_byte(text: &mut String, begins: bool, byte: u8) -> Result<(), AllocError>
+    ensures { OnOk result (string_bytes text.new ≡ string_bytes text.old ++ byte_text begins byte) }
+{
+    text.push_str(before(begins))?;
+    if byte != b'\n' {
+        text.push(char::from(byte))?;
+    }
+    Ok(())
 }
 
 // The lines of a text strip, each behind a blank.
 fn push_lines(text: &mut String, lines: &[u8]) -> Result<(), AllocError>
     ensures { OnOk result (string_bytes text.new ≡ string_bytes text.old ++ lines_text true lines.now) }
 {
-    for line in lines.split_inclusive(|byte| *byte == b'\n') {
-        text.push_str(" ")?;
-        for byte in line.strip_suffix(b"\n").unwrap_or(line) {
-            text.push(char::from(*byte))?;
-        }
+    let mut begins = true;
+    for byte in lines {
+        push_byte(text, begins, *byte)?;
+        begins = *byte == b'\n';
     }
     Ok(())
 }
@@ -160,7 +167,7 @@ impl Filled {
         ensures { OnOk result (string_bytes text.new ≡ string_bytes text.old ++ filled_text self.now) }
     {
         match self {
-            Filled::Records(records) => push_words(text, records.as_slice(), AsValue),
+            Filled::Records(records) => push_each(text, records.as_slice(), " ", AsValue, ""),
             Filled::Text(lines) => push_lines(text, lines.as_slice()),
         }
     }

@@ -1,4 +1,10 @@
 // A whole session: its calls are carried out by the one call whose contract has the law of takes.
+ghost use Rattle.std.specs.Prelude.{◌≡◌, IfOk, map, vec_items};
+ghost use Rattle.notation.specs.Lines.{spoken_call};
+ghost use Rattle.session.specs.Law.{Session as LawfulSession};
+ghost use Rattle.planned.specs.Carried.{Carried};
+ghost use Rattle.planned.specs.Sessions.{Answers, call_said};
+
 use crate::carry::{CarryError, Job, Outcome, carry_out};
 use crate::plan::Session;
 use crate::show::{InNumbers, left_text};
@@ -19,6 +25,8 @@ impl Job for SessionJob<'_, '_> {
     type Answer = Vec<Answer>;
     type Error = AllocError;
 
+    ghost does = { λ job answers rules before after. LawfulSession rules job.calls.now (vec_items answers) before after };
+
     fn work<F: Feed, S: Strip>(
         &self,
         feed: &mut F,
@@ -29,7 +37,9 @@ impl Job for SessionJob<'_, '_> {
 }
 
 // A call, over the bytes that its plan holds.
-fn lent(plan: &CallPlan) -> Call<'_> {
+fn lent(plan: &CallPlan) -> Call<'_>
+    ensures { call_said result ≡ spoken_call plan.now }
+{
     match plan {
         CallPlan::Load(table) => Call::Load(table.as_slice()),
         CallPlan::Open(sheet) => Call::Open(sheet.as_slice()),
@@ -39,17 +49,21 @@ fn lent(plan: &CallPlan) -> Call<'_> {
     }
 }
 
+// The calls, over the bytes that the plans hold.
+fn lend(heap: Global, plans: &[CallPlan]) -> Result<Vec<Call<'_>>, AllocError>
+    ensures { IfOk result (λ calls. map call_said (vec_items calls) ≡ map spoken_call plans.now) }
+{
+    plans.iter().map(lent).collect(heap)
+}
+
 // Carries out a session between the feed and the strip that are planned. Where the ramp is refused, nothing is done.
 pub fn carry_out_session(
     heap: Global,
     session: &Session,
-) -> Result<Outcome<Vec<Answer>>, CarryError<AllocError>> {
-    let calls: Vec<Call> = session
-        .calls
-        .iter()
-        .map(lent)
-        .collect(heap)
-        .map_err(CarryError::Failed)?;
+) -> Result<Outcome<Vec<Answer>>, CarryError<AllocError>>
+    ensures { Carried (λ answers before after. Answers session.now (vec_items answers) before after) session.now.feed session.now.strip result }
+{
+    let calls = lend(heap, session.calls.as_slice()).map_err(CarryError::Failed)?;
     let job = SessionJob {
         heap,
         calls: calls.as_slice(),

@@ -1,5 +1,5 @@
 // A program's code, word for word or as a sum.
-use planned::show::push_words;
+use planned::show::push_each;
 use sheet::layout::Entry;
 use std::{fmt, io};
 use vocabulary::code::Word;
@@ -21,7 +21,7 @@ impl fmt::Display for InNumbers {
 // Each word in numbers.
 pub fn print_code(rt: &HostRuntime, code: &[Word]) -> io::Result<()> {
     let mut text = String::from_str(rt.alloc(), "code")?;
-    push_words(&mut text, code, InNumbers)?;
+    push_each(&mut text, code, " ", InNumbers, "")?;
     rt.println(text)
 }
 

@@ -31,7 +31,7 @@ pub fn options_in<'a>(rt: &HostRuntime, words: &[&'a str]) -> Result<Options<'a>
         as_session: false,
     };
     let mut rest = words;
-    loop {
+    'words: loop {
         rest = match rest {
             [] => return Ok(options),
             ["--session", more @ ..] => {

@@ -10,8 +10,8 @@ returns c =
     one-after-another (codes "feed") _ (codes "\nheld") (filled_text left.filled) (codes "\nspace ") (decimal left.space) (10 ∷ []) (memory_text left.filled)
     _ _ _ _ _ _
     c.in_ok-text.ensures.ok
-    (c.in_ok-add_items.ensures ∙ ap (λ (items : List Item). string_bytes c.in_ok-text.text ++ items_text items) c.as_slice.ensures.value)
+    (c.in_ok-push_items.ensures ∙ ap (λ (items : List Item). string_bytes c.in_ok-text.text ++ items_text items) c.as_slice.ensures.value)
     c.in_ok-push_str.ensures.bytes
-    c.in_ok-add_filled.ensures
+    c.in_ok-push_values.ensures
     c.in_ok-write.ensures.bytes
-    c.in_ok-add_memory.ensures
+    c.in_ok-push_memory.ensures
