@@ -9,7 +9,7 @@ use crate::error::{ReadError, Shown, Wanted, WordError};
 use std::alloc::{AllocError, Global};
 use std::fmt;
 
-// `to_digit` of std would take upper case too.
+// The value of a digit. It is no `to_digit` of std, which takes upper case too.
 fn digit_value(byte: u8) -> Option<u8>
     ensures { MatchOption result ((d : ℕ) → d < 16 → hex_digit d ≢ byte) (λ d. (d < 16) × (hex_digit d ≡ byte)) }
 {
@@ -42,6 +42,7 @@ fn read_byte(pair: &[u8; 2], before: usize) -> Result<u8, WordError>
     Ok(h * 16 + l)
 }
 
+// The bytes of digits, pair by pair.
 fn read_pairs(heap: Global, word: &[u8], wanted: Wanted) -> Result<Vec<u8>, ReadError>
     ensures bytes { MatchResult result (λ bytes. word.now ≡ hex_digits bytes.items) (λ e. (e ≢ Memory) → (bytes : List ℕ) → Bytes bytes → word.now ≢ hex_digits bytes) }
     ensures fault { IfErr result (λ e. (e ≡ Memory) ⊎ Misses wanted (HexError word.now) e) }

@@ -50,6 +50,7 @@ fn last_size(rest: &[u8], wanted: Wanted) -> Result<usize, ReadError>
     last_number(rest, wanted, usize::MAX as u64).map(|n| n as usize)
 }
 
+// What stands behind `feed ramp`.
 fn read_ramp(rest: &[u8]) -> Result<FeedPlan, ReadError>
     ensures { ReadsBehind spoken_feed (λ ws. codes "feed" ∷ codes "ramp" ∷ ws) rest.now result }
 {
