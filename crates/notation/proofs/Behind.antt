@@ -9,7 +9,7 @@ use Rattle.notation.specs.declared.error.ReadError.{ReadError}
 use Rattle.notation.specs.declared.error.ReadError.TheVariants.{Memory}
 use Rattle.notation.specs.declared.plan.Line.{Line}
 use Rattle.notation.specs.Hex.{Bytes, hex_text}
-use Rattle.notation.specs.Lines.{Spoken, nothing, trace_feed, ramp_feed, record_strip, text_strip, loads, opens, rewinds, runs, reports, ItemRange, InRange, AreItems, Say, Reads, ReadsBehind, spoken, said}
+use Rattle.notation.specs.Lines.{Spoken, nothing, trace_feed, ramp_feed, record_strip, text_strip, loads, opens, rewinds, runs, reports, ItemRange, InRange, AreItems, Say, Reads, ReadsBehind, ReadsBytes, ReadsNumber, spoken, said}
 use Rattle.notation.specs.Numbers.{Unsigned, Signed}
 use Rattle.notation.specs.Words.{word, behind, Words}
 use Rattle.notation.proofs.Figures.{signed_some}
@@ -110,20 +110,14 @@ module _ (verb rest : List ℕ) (feed : verb ≡ codes "feed" → ⊥) (strip : 
 
 -- what was read, as a plan that says it
 module _ (rest : List ℕ) where
-  abbrev pub BytesRead : Result (Vec ℕ Global) ReadError → Type 0
-  BytesRead r = MatchResult r (λ v. Words rest (hex_text (vec_items v) ∷ [])) (λ e. (e ≢ Memory) → NoBytes rest)
-
-  abbrev pub NumberRead : ℕ → Result ℕ ReadError → Type 0
-  NumberRead most r = MatchResult r (λ n. (n ≤ most) × ((w : List ℕ) × Words rest (w ∷ []) × Unsigned w n)) (λ _. NoNumber most rest)
-
   abbrev pub EndRead : Result (Unit {0}) ReadError → Type 0
   EndRead r = MatchResult r (λ _. Words rest []) (λ _. Words rest [] → ⊥)
 
-  pub load_read : (r : Result (Vec ℕ Global) ReadError) → BytesRead r → ReadsBehind (λ v. loads (vec_items v)) (λ ws. codes "load" ∷ ws) rest r
+  pub load_read : (r : Result (Vec ℕ Global) ReadError) → ReadsBytes rest r → ReadsBehind (λ v. loads (vec_items v)) (λ ws. codes "load" ∷ ws) rest r
   load_read (Ok v) p = (hex_text (vec_items v) ∷ [], p, refl)
   load_read (Err e) p = λ other. load_bad rest (p other)
 
-  pub open_read : (r : Result (Vec ℕ Global) ReadError) → BytesRead r → ReadsBehind (λ v. opens (vec_items v)) (λ ws. codes "open" ∷ ws) rest r
+  pub open_read : (r : Result (Vec ℕ Global) ReadError) → ReadsBytes rest r → ReadsBehind (λ v. opens (vec_items v)) (λ ws. codes "open" ∷ ws) rest r
   open_read (Ok v) p = (hex_text (vec_items v) ∷ [], p, refl)
   open_read (Err e) p = λ other. open_bad rest (p other)
 
@@ -135,15 +129,15 @@ module _ (rest : List ℕ) where
   report_read (Ok v) p = ([], p, refl)
   report_read (Err e) p = λ _. report_bad rest p
 
-  pub run_read : (r : Result ℕ ReadError) → NumberRead 4294967295 r → ReadsBehind runs (λ ws. codes "run" ∷ ws) rest r
+  pub run_read : (r : Result ℕ ReadError) → ReadsNumber 4294967295 rest r → ReadsBehind runs (λ ws. codes "run" ∷ ws) rest r
   run_read (Ok n) p = (p.1.0 ∷ [], p.1.1, (p.1.0, refl, p.1.2))
   run_read (Err e) p = λ _. run_bad rest p
 
-  pub records_read : (r : Result ℕ ReadError) → NumberRead 18446744073709551615 r → ReadsBehind record_strip (λ ws. codes "strip" ∷ codes "records" ∷ ws) rest r
+  pub records_read : (r : Result ℕ ReadError) → ReadsNumber 18446744073709551615 rest r → ReadsBehind record_strip (λ ws. codes "strip" ∷ codes "records" ∷ ws) rest r
   records_read (Ok n) p = (p.1.0 ∷ [], p.1.1, (p.1.0, refl, p.1.2))
   records_read (Err e) p = λ _. records_bad rest p
 
-  pub text_read : (r : Result ℕ ReadError) → NumberRead 18446744073709551615 r → ReadsBehind text_strip (λ ws. codes "strip" ∷ codes "text" ∷ ws) rest r
+  pub text_read : (r : Result ℕ ReadError) → ReadsNumber 18446744073709551615 rest r → ReadsBehind text_strip (λ ws. codes "strip" ∷ codes "text" ∷ ws) rest r
   text_read (Ok n) p = (p.1.0 ∷ [], p.1.1, (p.1.0, refl, p.1.2))
   text_read (Err e) p = λ _. text_bad rest p
 

@@ -1,5 +1,5 @@
 -- Hex digits, taken pair by pair: the bytes so far and what is left of the word make up the word.
-use Rattle.std.proofs.Common.{◌≡◌, ℕ, zero, suc, ◌+◌, ◌*◌, ◌/◌, ◌%◌, ◌^◌, ◌-◌, ◌<◌, ◌≤◌, false, eqb, List, [], ◌∷◌, ◌++◌, length, get_or, take, drop, map, sym, refl, ap, ◌∙◌, append_assoc, length-append, arith}
+use Rattle.std.proofs.Common.{◌≡◌, ℕ, zero, suc, ◌+◌, ◌*◌, ◌/◌, ◌%◌, ◌^◌, ◌-◌, ◌<◌, ◌≤◌, false, eqb, List, [], ◌∷◌, ◌++◌, length, get_or, take, drop, map, sym, refl, ap, ◌∙◌, append_assoc, length-append, subst, arith}
 use Rattle.std.proofs.lemmas.List.{take_more, nil_from_length, length-take-le, length-map}
 use Rattle.std.proofs.ByRecursion.{All-append}
 use Rattle.std.specs.List.{AllByRecursion}
@@ -7,7 +7,9 @@ use Rattle.std.specs.Simd.{first_chunks}
 use Rattle.std.specs.Fmt.{digits, padded_integral, format_spec}
 use Rattle.std.proofs.lemmas.Fmt.{hex_byte}
 use Rattle.std.proofs.lemmas.Bool.{eqb-false}
-use Rattle.notation.specs.Hex.{hex_digit, hex_digits, Bytes, IsHexDigit, FirstNoDigit}
+use Rattle.notation.specs.declared.error.WordError.{WordError}
+use Rattle.notation.specs.declared.error.WordError.TheVariants.{NoHexDigit}
+use Rattle.notation.specs.Hex.{hex_digit, hex_digits, Bytes, IsHexDigit, FirstNoDigit, HexError}
 
 pub digits_append : (xs ys : List ℕ) → hex_digits (xs ++ ys) ≡ hex_digits xs ++ hex_digits ys
 digits_append [] ys = refl
@@ -79,7 +81,7 @@ module _ (word : List ℕ) (pairs : List (List ℕ)) (front : pairs ≡ first_ch
         none b.0 b.1 (ap (λ t. get_or t k []) p ∙ b.2)
 
     -- the first byte of the pair that is no digit is that of the word
-    pub pair_fault : (items : List ℕ) → Bytes items → take k pairs ≡ map pair_of items → (place found : ℕ) → FirstNoDigit (get_or pairs k []) (2 * k) place found → FirstNoDigit word 0 place found
+    pair_fault : (items : List ℕ) → Bytes items → take k pairs ≡ map pair_of items → (place found : ℕ) → FirstNoDigit (get_or pairs k []) (2 * k) place found → FirstNoDigit word 0 place found
     pair_fault items small e place found f =
         let m = ap length front ∙ length-first_chunks (length word / 2) word in
         let c = chunk_cut (length word / 2) k word items (omega arith) (omega arith) (ap (take k) (sym front) ∙ e) in
@@ -94,6 +96,11 @@ module _ (word : List ℕ) (pairs : List (List ℕ)) (front : pairs ≡ first_ch
           f.4,
           let p = f.5 in let q = length-append (hex_digits items) f.0 in omega arith,
         )
+
+-- the error of a pair is that of the word
+module _ (word : List ℕ) (pairs : List (List ℕ)) (front : pairs ≡ first_chunks 2 (length word / 2) word) (even : length word % 2 ≡ 0) (k : ℕ) (h : k < length pairs) where
+  pub pair_error : (items : List ℕ) → Bytes items → take k pairs ≡ map pair_of items → (w : WordError) → (place : ℕ) × (found : ℕ) × (w ≡ NoHexDigit place record { 0 = found }) × FirstNoDigit (get_or pairs k []) (2 * k) place found → HexError word w
+  pair_error items small e w f = subst (HexError word) (sym f.2) (even, pair_fault word pairs front k h items small e f.0 f.1 f.3)
 
 -- writing
 pub digits_more : (bytes : List ℕ) (i : ℕ) → i < length bytes → get_or bytes i 0 < 256 → hex_digits (take i bytes) ++ padded_integral (format_spec 32 0 4 2 (2 ^ 64 - 1)) false [] (digits 16 false (get_or bytes i 0)) ≡ hex_digits (take (i + 1) bytes)

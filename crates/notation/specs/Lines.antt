@@ -1,5 +1,6 @@
 -- What a line says: its text as it is written, and which lines say it.
-use Rattle.std.specs.Prelude.{◌≡◌, ℕ, ◌^◌, ◌<◌, List, [], ◌∷◌, ◌++◌, map, ℤ, vec_items, codes, decimal, Option, Some, None, Result, MatchResult, FitsSigned, ◌≢◌}
+use Rattle.std.specs.Prelude.{◌≡◌, ℕ, ◌^◌, ◌<◌, ◌≤◌, List, [], ◌∷◌, ◌++◌, map, ℤ, Vec, vec_items, codes, decimal, Option, Some, None, Result, MatchResult, FitsSigned, ◌≢◌}
+use Rattle.std.specs.Global.{Global}
 use Rattle.std.specs.Int.{w32}
 use Rattle.std.specs.List.{flat_map, AllByRecursion}
 use Rattle.std.specs.Fmt.{signed_decimal}
@@ -7,7 +8,9 @@ use Rattle.vocabulary.specs.declared.item.Item.{Item}
 use Rattle.vocabulary.specs.declared.item.Item.TheVariants.{Reading, Fault}
 use Rattle.ports.specs.Traces.{items_of}
 use Rattle.notation.specs.declared.error.ReadError.{ReadError}
-use Rattle.notation.specs.declared.error.ReadError.TheVariants.{Memory}
+use Rattle.notation.specs.declared.error.ReadError.TheVariants.{Memory, Word}
+use Rattle.notation.specs.declared.error.Wanted.{Wanted}
+use Rattle.notation.specs.declared.error.WordError.{WordError}
 use Rattle.notation.specs.declared.plan.CallPlan.{CallPlan}
 use Rattle.notation.specs.declared.plan.CallPlan.TheVariants.{Load, Open, Rewind, Run, Report}
 use Rattle.notation.specs.declared.plan.FeedPlan.{FeedPlan}
@@ -143,3 +146,17 @@ abbrev pub ReadsBehind : {P : Type 0} → (P → Spoken) → (List (List ℕ) �
 ReadsBehind says first rest r =
     MatchResult r (λ l. (ws : List (List ℕ)) × Words rest ws × Say (first ws) (says l))
     (λ e. (e ≢ Memory) → (s : Spoken) → InRange s → (ws : List (List ℕ)) → Words rest ws → Say (first ws) s → ⊥)
+
+-- what reading the only word of the rest gives, as bytes: those whose text it is
+abbrev pub ReadsBytes : List ℕ → Result (Vec ℕ Global) ReadError → Type 0
+ReadsBytes rest r =
+    MatchResult r (λ v. Words rest (hex_text (vec_items v) ∷ [])) (λ e. (e ≢ Memory) → (bytes : List ℕ) → Bytes bytes → Words rest (hex_text bytes ∷ []) → ⊥)
+
+-- the same as a number of at most `most`
+abbrev pub ReadsNumber : ℕ → List ℕ → Result ℕ ReadError → Type 0
+ReadsNumber most rest r =
+    MatchResult r (λ n. (n ≤ most) × ((w : List ℕ) × Words rest (w ∷ []) × Unsigned w n)) (λ _. (n : ℕ) → n ≤ most → (w : List ℕ) → Words rest (w ∷ []) → Unsigned w n → ⊥)
+
+-- the error names what was wanted, and what `wrong` says is wrong with its word
+abbrev pub Misses : Wanted → (WordError → Type 0) → ReadError → Type 0
+Misses wanted wrong e = (w : WordError) × (e ≡ Word wanted w) × wrong w

@@ -1,15 +1,15 @@
 // Bytes in hex digits, two a byte, and `-` for no bytes.
 ghost use Rattle.std.specs.Prelude.{◌≡◌, ℕ, ◌^◌, ◌<◌, ◌⊎◌, List, [], ◌∷◌, IfOk, IfErr, string_bytes, MatchOption, MatchResult, ◌≢◌, Some};
-ghost use Rattle.notation.specs.declared.error.ReadError.TheVariants.{Memory, Word};
-ghost use Rattle.notation.specs.declared.error.WordError.{WordError};
+ghost use Rattle.notation.specs.declared.error.ReadError.TheVariants.{Memory};
 ghost use Rattle.notation.specs.declared.error.WordError.TheVariants.{NoHexDigit};
+ghost use Rattle.notation.specs.Lines.{Misses};
 ghost use Rattle.notation.specs.Hex.{Bytes, FirstNoDigit, hex_digit, hex_digits, hex_text, HexError};
 
 use crate::error::{ReadError, Shown, Wanted, WordError};
 use std::alloc::{AllocError, Global};
 use std::fmt;
 
-// `to_digit` of std would take upper case too.
+// The value of a digit. It is no `to_digit` of std, which takes upper case too.
 fn digit_value(byte: u8) -> Option<u8>
     ensures { MatchOption result ((d : ℕ) → d < 16 → hex_digit d ≢ byte) (λ d. (d < 16) × (hex_digit d ≡ byte)) }
 {
@@ -42,9 +42,10 @@ fn read_byte(pair: &[u8; 2], before: usize) -> Result<u8, WordError>
     Ok(h * 16 + l)
 }
 
+// The bytes of digits, pair by pair.
 fn read_pairs(heap: Global, word: &[u8], wanted: Wanted) -> Result<Vec<u8>, ReadError>
     ensures bytes { MatchResult result (λ bytes. word.now ≡ hex_digits bytes.items) (λ e. (e ≢ Memory) → (bytes : List ℕ) → Bytes bytes → word.now ≢ hex_digits bytes) }
-    ensures fault { IfErr result (λ e. (e ≡ Memory) ⊎ ((w : WordError) × (e ≡ Word wanted w) × HexError word.now w)) }
+    ensures fault { IfErr result (λ e. (e ≡ Memory) ⊎ Misses wanted (HexError word.now) e) }
 {
     let (pairs, alone) = word.as_chunks::<2>();
     if !alone.is_empty() {
@@ -61,7 +62,7 @@ fn read_pairs(heap: Global, word: &[u8], wanted: Wanted) -> Result<Vec<u8>, Read
 // The bytes of a word, which is the text of just these; refused where it is the text of no bytes.
 pub fn read_hex(heap: Global, word: &[u8], wanted: Wanted) -> Result<Vec<u8>, ReadError>
     ensures bytes { MatchResult result (λ bytes. word.now ≡ hex_text bytes.items) (λ e. (e ≢ Memory) → (bytes : List ℕ) → Bytes bytes → word.now ≢ hex_text bytes) }
-    ensures fault { IfErr result (λ e. (e ≡ Memory) ⊎ ((w : WordError) × (e ≡ Word wanted w) × HexError word.now w)) }
+    ensures fault { IfErr result (λ e. (e ≡ Memory) ⊎ Misses wanted (HexError word.now) e) }
 {
     match word {
         [] => Err(wanted.missed(WordError::Missing)),

@@ -1,9 +1,6 @@
 // Reading what stands behind the first words of a line.
-ghost use Rattle.std.specs.Prelude.{◌≡◌, ℕ, ◌≤◌, List, [], ◌∷◌, codes, MatchResult, ◌≢◌};
-ghost use Rattle.notation.specs.declared.error.ReadError.TheVariants.{Memory};
-ghost use Rattle.notation.specs.Hex.{Bytes, hex_text};
-ghost use Rattle.notation.specs.Lines.{ReadsBehind, spoken, spoken_feed, spoken_strip};
-ghost use Rattle.notation.specs.Numbers.{Unsigned};
+ghost use Rattle.std.specs.Prelude.{[], ◌∷◌, codes, MatchResult};
+ghost use Rattle.notation.specs.Lines.{ReadsBehind, ReadsBytes, ReadsNumber, spoken, spoken_feed, spoken_strip};
 ghost use Rattle.notation.specs.Words.{Words};
 
 use crate::error::{ReadError, Wanted};
@@ -28,7 +25,7 @@ fn end_of_line(rest: &[u8]) -> Result<(), ReadError>
 
 // The bytes that the only word gives.
 fn last_bytes(heap: Global, rest: &[u8], wanted: Wanted) -> Result<Vec<u8>, ReadError>
-    ensures { MatchResult result (λ v. Words rest.now (hex_text v.items ∷ [])) (λ e. (e ≢ Memory) → (bytes : List ℕ) → Bytes bytes → Words rest.now (hex_text bytes ∷ []) → ⊥) }
+    ensures { ReadsBytes rest.now result }
 {
     let (word, more) = next_word(rest);
     let bytes = read_hex(heap, word, wanted)?;
@@ -38,7 +35,7 @@ fn last_bytes(heap: Global, rest: &[u8], wanted: Wanted) -> Result<Vec<u8>, Read
 
 // The number that the only word stands for.
 fn last_number(rest: &[u8], wanted: Wanted, most: u64) -> Result<u64, ReadError>
-    ensures { MatchResult result (λ n. (n ≤ most) × ((w : List ℕ) × Words rest.now (w ∷ []) × Unsigned w n)) (λ _. (n : ℕ) → n ≤ most → (w : List ℕ) → Words rest.now (w ∷ []) → Unsigned w n → ⊥) }
+    ensures { ReadsNumber most rest.now result }
 {
     let (word, more) = next_word(rest);
     let number = read_digits(word, 0, most).map_err(|error| wanted.missed(error))?;
@@ -48,11 +45,12 @@ fn last_number(rest: &[u8], wanted: Wanted, most: u64) -> Result<u64, ReadError>
 
 // The same of a number of elements.
 fn last_size(rest: &[u8], wanted: Wanted) -> Result<usize, ReadError>
-    ensures { MatchResult result (λ n. (n ≤ 18446744073709551615) × ((w : List ℕ) × Words rest.now (w ∷ []) × Unsigned w n)) (λ _. (n : ℕ) → n ≤ 18446744073709551615 → (w : List ℕ) → Words rest.now (w ∷ []) → Unsigned w n → ⊥) }
+    ensures { ReadsNumber 18446744073709551615 rest.now result }
 {
     last_number(rest, wanted, usize::MAX as u64).map(|n| n as usize)
 }
 
+// What stands behind `feed ramp`.
 fn read_ramp(rest: &[u8]) -> Result<FeedPlan, ReadError>
     ensures { ReadsBehind spoken_feed (λ ws. codes "feed" ∷ codes "ramp" ∷ ws) rest.now result }
 {

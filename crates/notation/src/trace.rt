@@ -34,6 +34,7 @@ fn read_item(word: &[u8], number: usize) -> Result<Record, ReadError>
     }
 }
 
+// The records of a trace, an item a word.
 pub fn read_trace(heap: Global, line: &[u8]) -> Result<Vec<Record>, ReadError>
     ensures { MatchResult result (λ records. (ws : List (List ℕ)) × Words line.now ws × AreItems ws (items_of records.items)) (λ e. (e ≢ Memory) → (items : List Item) → AllByRecursion ItemRange items → (ws : List (List ℕ)) → Words line.now ws → AreItems ws items → ⊥) }
 {

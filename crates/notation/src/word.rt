@@ -14,7 +14,7 @@ fn is_solid(byte: u8) -> bool
     !is_blank(byte) && byte != b'#'
 }
 
-// The first word, empty where there is none, and what stands behind it.
+// The first word, and what stands behind it. It is empty where there is none, and no Option: each reader of a word refuses the empty one with its own error.
 pub fn next_word(line: &[u8]) -> (&[u8], &[u8])
     ensures first { result.0.now ≡ word line.now }
     ensures second { result.1.now ≡ behind line.now }

@@ -4,9 +4,9 @@ use Rattle.std.proofs.lemmas.List.{take_more, take_all, map_push}
 use Rattle.std.proofs.lemmas.Slice.{pushed}
 use Rattle.std.proofs.lemmas.Result.{err_from_is_err_and, IfErr-at_err}
 use Rattle.std.proofs.lemmas.Bool.{eqb-true, eqb-false}
-use Rattle.notation.specs.Hex.{Bytes, HexError}
+use Rattle.notation.specs.Hex.{Bytes}
 use Rattle.notation.proofs.Missed.{missed_at}
-use Rattle.notation.proofs.Pairs.{odd_bad, pair_bad, pair_fault, pairs_all, pair_of}
+use Rattle.notation.proofs.Pairs.{odd_bad, pair_bad, pair_error, pairs_all, pair_of}
 use Rattle.notation.proofs.hex.read_pairs.Goals as goal
 
 pub returns-then-not-is_empty : goal.returns-then-not-is_empty
@@ -26,11 +26,10 @@ returns-in_err-byte c =
     let none : (b : ℕ) → b < 256 → get_or pairs c.loop-k.k [] ≡ pair_of b → ⊥ = search rules in
     let p = err_from_is_err_and c.from_residual.result c.from_residual.ensures.1 in
     let m = missed_at c.args.wanted _ c.read_byte.result c.map_err.result c.map_err.ensures.cases (λ w y p. search rules) _ c.in_err-byte.was in
-    let f = IfErr-at_err _ m.1 c.read_byte.ensures.fault in
-    let g = pair_fault word pairs c.as_chunks.ensures.front c.loop-k.k c.loop-k-test.true (vec_items c.loop-k.bytes) c.loop-k.invariant.1 c.loop-k.invariant.0 f.0 f.1 f.3 in
+    let f = pair_error word pairs c.as_chunks.ensures.front even c.loop-k.k c.loop-k-test.true (vec_items c.loop-k.bytes) c.loop-k.invariant.1 c.loop-k.invariant.0 m.0 (IfErr-at_err _ m.1 c.read_byte.ensures.fault) in
     record {
       bytes = rw p.1 (λ _. pair_bad word pairs c.as_chunks.ensures.front c.loop-k.k c.loop-k-test.true none);
-      fault = rw (p.1, p.2) (inr (m.0, m.2, subst (HexError word) (sym f.2) (even, g)));
+      fault = rw (p.1, p.2) (inr (m.0, m.2, f));
     }
 
 pub loop-k-preserved : goal.loop-k-preserved
