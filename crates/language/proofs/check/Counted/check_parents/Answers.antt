@@ -23,17 +23,17 @@ module _ (nodes : List Node) (tallies : List ℕ) (m : ℕ) (last : m ≡ root_o
 pub returns-in-Some : goal.returns-in-Some
 returns-in-Some c =
     let nodes = c.args.self.nodes.now in
-    let tallies = c.tally.result in
+    let tallies = c.args.tallies in
     let f = c.in-Some.ensures.found in
     let l : c.in-Some.n < root_of nodes = omega (arith, length-take {A = ℕ}) in
     rw c.at.ensures
-    (sym (stopped (parent_verdict nodes) (root_of nodes) 0 c.in-Some.n (omega arith) (omega arith) (λ k _ u. once nodes tallies c.root.result c.root.ensures c.tally.ensures k (omega arith) (f.2 k u))
-    (not_once nodes tallies c.root.result c.root.ensures c.tally.ensures c.in-Some.n l f.1)))
+    (sym (stopped (parent_verdict nodes) (root_of nodes) 0 c.in-Some.n (omega arith) (omega arith) (λ k _ u. once nodes tallies c.root.result c.root.ensures c.requires k (omega arith) (f.2 k u))
+    (not_once nodes tallies c.root.result c.root.ensures c.requires c.in-Some.n l f.1)))
 
 pub returns-in-None : goal.returns-in-None
 returns-in-None c =
     let nodes = c.args.self.nodes.now in
     let few : length nodes ≤ 512 = c.args.self.few in
-    let all : length c.tally.result ≡ 512 = search rules in
-    let inside : (k : ℕ) → k < root_of nodes → k < length (take c.root.result c.tally.result) = λ k l. omega (arith, length-take {A = ℕ}) in
-    sym (passed_all (parent_verdict nodes) (root_of nodes) 0 (λ k _ u. once nodes c.tally.result c.root.result c.root.ensures c.tally.ensures k (omega arith) (c.in-None.ensures.none refl k (inside k (omega arith)))))
+    let all : length c.args.tallies ≡ 512 = search rules in
+    let inside : (k : ℕ) → k < root_of nodes → k < length (take c.root.result c.args.tallies) = λ k l. omega (arith, length-take {A = ℕ}) in
+    sym (passed_all (parent_verdict nodes) (root_of nodes) 0 (λ k _ u. once nodes c.args.tallies c.root.result c.root.ensures c.requires k (omega arith) (c.in-None.ensures.none refl k (inside k (omega arith)))))
