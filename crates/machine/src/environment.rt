@@ -7,7 +7,7 @@ use crate::tables::{Bound, Entry, Frame};
 use vocabulary::table::{Table, TableFull};
 use vocabulary::value::{Plain, Value};
 
-// The bindings in use, and the present environment among them.
+// The bindings in use, and the present environment among them. Entries name one another by number, since there is no heap.
 #[derive(Drop)]
 pub struct Bindings {
     pub(crate) entries: Table<Entry, 512>,

@@ -29,7 +29,7 @@ impl Machine {
         }
     }
 
-    // As if new, with no table written.
+    // As if new, with no table written, where a `Machine::new` in its place would fill all four.
     #[tactic(auto, unfolding(crate::specs::Links::chain, crate::specs::Links::chains, crate::specs::Links::nested))]
     pub fn restart(&mut self)
         ensures { seen self.new ≡ blank }

@@ -25,6 +25,7 @@ impl Machine {
         ensures few { result.steps ≤ fuel }
         ensures kept { S.Strip.keeps strip.old strip.new }
     {
+        // A loop, since it ends in the middle and says after how many steps.
         for done in 0..fuel {
             let status = self.step(code, feed, strip);
             match status {

@@ -26,7 +26,7 @@ impl Stop {
 }
 
 impl Machine {
-    // One instruction.
+    // One instruction. The match is the enum's own dispatch, with a method for each variant.
     fn perform<F: Feed, S: Strip>(
         &mut self,
         instruction: Instruction,

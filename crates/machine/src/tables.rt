@@ -8,7 +8,7 @@ use vocabulary::table::{NotInUse, TableFull};
 use vocabulary::value::Value;
 
 // What a name is bound to: a value, or the position of a routine's body. What the body sees is the environment below its
-// own entry.
+// own entry. Two sorts of binding, neither the failure of the other: so no Result.
 #[derive(Clone, Copy, PartialEq, Eq, Debug)]
 pub enum Bound {
     Holds(Value),
@@ -23,7 +23,7 @@ pub struct Entry {
 }
 
 // What ENTER or CALL puts on the dump: the environment, the bindings in use, and the cells in use (ENTER) or the next
-// position (CALL).
+// position (CALL). One number for both, as in the definition: RET and LEAVE take whichever frame lies on top.
 #[derive(Clone, Copy, PartialEq, Eq, Debug)]
 pub struct Frame {
     pub env: Option<u16>,
@@ -70,7 +70,7 @@ impl From<StripFull> for Stop {
     }
 }
 
-// How the machine stands after a step, with the node of an end.
+// How the machine stands after a step, with the node of an end: three states, of which none is a failure, so no Result.
 #[derive(Clone, Copy, PartialEq, Eq, Debug)]
 pub enum Status {
     Running,
