@@ -3,7 +3,7 @@ use Rattle.std.proofs.lemmas.Result.{err_from_is_err_and}
 use Rattle.translation.proofs.Declarations.{at_value, value_done}
 use Rattle.translation.proofs.Parts.{ready_e, end_plain, refused_d}
 use Rattle.translation.proofs.Scopes.{older_same}
-use Rattle.translation.proofs.translator.Translator.value.Goals as goal
+use Rattle.translation.proofs.translator.Translator.value_declaration.Goals as goal
 
 pub plain_value-requires : goal.plain_value-requires
 plain_value-requires c =
