@@ -1,5 +1,5 @@
 -- A table of bytes as a list of nodes, and the rules of a table that do not speak of names.
-use Rattle.std.specs.Prelude.{ℕ, zero, suc, ◌+◌, ◌-◌, ◌*◌, ◌/◌, ◌%◌, Bool, cond, ◌&&◌, List, [], ◌∷◌, ◌++◌, length, ◌==◌, nat_le, nat_lt, slice_index, slice_index_or}
+use Rattle.std.specs.Prelude.{◌≡◌, ℕ, zero, suc, ◌+◌, ◌-◌, ◌*◌, ◌/◌, ◌%◌, Bool, cond, ◌&&◌, List, [], ◌∷◌, ◌++◌, length, ◌==◌, nat_le, nat_lt, slice_index, slice_index_or}
 use Rattle.std.specs.List.{list_all}
 use Rattle.vocabulary.specs.declared.node.Node.{Node}
 use Rattle.language.specs.declared.kind.ChildField.{ChildField}
@@ -53,6 +53,10 @@ times k (c ∷ cs) = hit c.number k + times k cs
 unfoldable pub children_in : List Node → ℕ → List ChildField
 children_in nodes zero = []
 children_in nodes (suc n) = children_in nodes n ++ children (at nodes n)
+
+-- tallies that say of each number how often it is a child
+abbrev pub Tallied : List Node → List ℕ → Type 0
+Tallied nodes tallies = (k : ℕ) → slice_index tallies k ≡ times k (children_in nodes (length nodes))
 
 -- the number of the last node, which is the root
 abbrev pub root_of : List Node → ℕ

@@ -1,9 +1,10 @@
 // The check of a table's shape. Names are checked where code is made.
 ghost use Rattle.std.specs.Prelude.{◌≡◌, ◌≢◌, IfSome, IsNone, ℕ, ◌<◌, ◌≤◌, true, length, slice_index, IfOk, IfErr, Ok, Err};
 ghost use Rattle.std.specs.List.{list_all};
-ghost use Rattle.language.specs.Fields.{admits, formed, is_of, children};
+ghost use Rattle.language.specs.Fields.{admits, formed, is_of};
+ghost use Rattle.language.specs.Fields.{children as children_of};
 ghost use Rattle.language.specs.Kinds.{kind_number};
-ghost use Rattle.language.specs.Table.{at, lower, fitting, times, children_in, root_of};
+ghost use Rattle.language.specs.Table.{at, lower, fitting, root_of, Tallied};
 ghost use Rattle.language.specs.Verdicts.{node_verdict, parent_verdict, root_verdict, upward, shape_verdict, tree_verdict};
 
 use crate::form::Form;
@@ -99,6 +100,13 @@ fn first_fault(tallies: &[u16]) -> Option<usize>
 }
 
 impl Counted<'_> {
+    // The number of the last node, which is the root.
+    fn root(self) -> usize
+        ensures { result ≡ root_of self.entry.nodes.now }
+    {
+        self.nodes.len() - 1
+    }
+
     // Whether there is a node of a sort at a place.
     fn has(self, sort: Sort, place: usize) -> bool
         ensures { result ≡ is_of sort (at self.entry.nodes.now place).kind }
@@ -121,72 +129,63 @@ impl Counted<'_> {
             .all(|child| self.has(child.wanted, usize::from(child.number)))
     }
 
-    // A node by itself: the first of its faults.
-    fn check_node(self, n: usize, node: Node) -> Result<(), Refusal>
+    // A node by itself: the first of its faults. By ranges of kinds with guards, as a rule of the project has the node check.
+    fn check_node(self, n: usize, node: Node, children: &[ChildField]) -> Result<(), Refusal>
         requires here { n < length self.nodes.now }
         requires is { node ≡ at self.nodes.now n }
+        requires held { children.now ≡ children_of node }
         ensures { result ≡ node_verdict self.entry.nodes.now n }
     {
-        let children = children(node);
         let number = n as u16;
         match node.kind {
             1..=7 | 10..=14 | 20..=26 if !is_formed(node) => Err(Cause::FieldRule.at(number)),
-            1..=7 | 10..=14 | 20..=26 if !are_lower(children.as_slice(), n) => Err(
-                Cause::ChildNotLower.at(number),
-            ),
-            1..=7 | 10..=14 | 20..=26 if !self.are_fitting(children.as_slice()) => Err(
-                Cause::ChildSort.at(number),
-            ),
+            1..=7 | 10..=14 | 20..=26 if !are_lower(children, n) => Err(Cause::ChildNotLower.at(
+                number,
+            )),
+            1..=7 | 10..=14 | 20..=26 if !self.are_fitting(children) => Err(Cause::ChildSort.at(
+                number,
+            )),
             1..=7 | 10..=14 | 20..=26 => Ok(()),
             _ => Err(Cause::FieldRule.at(number)),
         }
     }
 
-    fn check_nodes(self) -> Result<(), Refusal>
-        ensures { result ≡ upward (node_verdict self.entry.nodes.now) (length self.entry.nodes.now) 0 }
-    {
-        for (n, node) in self.nodes.iter().enumerate() {
-            self.check_node(n, *node)?;
-        }
-        Ok(())
-    }
-
-    // How often each node is a child.
-    fn tally(self) -> [u16; 512]
-        requires { (n : ℕ) → n < length self.nodes.now → lower n (children (at self.nodes.now n)) ≡ true }
-        ensures { (k : ℕ) → slice_index result k ≡ times k (children_in self.entry.nodes.now (length self.entry.nodes.now)) }
+    // Each node by itself; at the end, how often each is a child.
+    fn check_nodes(self) -> Result<[u16; 512], Refusal>
+        ensures passed { IfOk result (λ tallies. (upward (node_verdict self.entry.nodes.now) (length self.entry.nodes.now) 0 ≡ Ok tt) × Tallied self.entry.nodes.now tallies) }
+        ensures refused { IfErr result (λ refusal. upward (node_verdict self.entry.nodes.now) (length self.entry.nodes.now) 0 ≡ Err refusal) }
     {
         let mut tallies = [0; 512];
-        for node in self.nodes {
-            for child in children(*node).as_slice() {
+        for (n, node) in self.nodes.iter().enumerate() {
+            let children = children(*node);
+            self.check_node(n, *node, children.as_slice())?;
+            for child in children.as_slice() {
                 tallies[usize::from(child.number)] += 1;
             }
         }
-        tallies
+        Ok(tallies)
     }
 
     // Each node but the last is a child exactly once.
-    fn check_parents(self) -> Result<(), Refusal>
-        requires { (n : ℕ) → n < length self.nodes.now → lower n (children (at self.nodes.now n)) ≡ true }
+    fn check_parents(self, tallies: [u16; 512]) -> Result<(), Refusal>
+        requires { Tallied self.nodes.now tallies }
         ensures { result ≡ upward (parent_verdict self.entry.nodes.now) (root_of self.entry.nodes.now) 0 }
     {
-        let tallies = self.tally();
-        let last = self.nodes.len() - 1;
-        match first_fault(&tallies[..last]) {
+        match first_fault(&tallies[..self.root()]) {
             Some(n) => Err(Cause::NotOneParent.at(n as u16)),
             None => Ok(()),
         }
     }
 
-    // The last node, which is the root, is a command.
+    // The root is a command.
     fn check_root(self) -> Result<(), Refusal>
         ensures { result ≡ root_verdict self.entry.nodes.now }
     {
-        let last = self.nodes.len() - 1;
-        if self.has(Sort::Command, last) {
+        let root = self.root();
+        if self.has(Sort::Command, root) {
             Ok(())
         } else {
-            Err(Cause::RootNotCommand.at(last as u16))
+            Err(Cause::RootNotCommand.at(root as u16))
         }
     }
 }
@@ -200,8 +199,8 @@ pub fn check_shape(nodes: &[Node]) -> Result<Shaped<'_>, Refusal>
         return Err(Cause::TableLength.into());
     }
     let counted = Counted { nodes };
-    counted.check_nodes()?;
-    counted.check_parents()?;
+    let tallies = counted.check_nodes()?;
+    counted.check_parents(tallies)?;
     counted.check_root()?;
     Ok(Shaped { nodes })
 }
