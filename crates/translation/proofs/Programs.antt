@@ -1,6 +1,6 @@
 -- The code of a whole program: that of its root, and the HALT.
 use Rattle.std.proofs.lemmas.List.{length-reverse}
-use Rattle.std.proofs.Common.{◌≡◌, ℕ, suc, arith, List, [], ◌++◌, length, Ok, Err, Result, sym, refl, ap, ◌∙◌, subst}
+use Rattle.std.proofs.Common.{◌≡◌, ℕ, suc, arith, List, [], ◌++◌, length, Ok, Result, sym, refl, ap, ◌∙◌, subst}
 use Rattle.vocabulary.specs.declared.code.Instruction.TheVariants.{Halt}
 use Rattle.vocabulary.specs.declared.code.Word.{Word}
 use Rattle.vocabulary.specs.declared.node.Node.{Node}
@@ -46,8 +46,3 @@ module _ {t u : Translator} (root : ℕ) (none : visible t.scope ≡ []) (empty 
         sym q'.answer,
         e ∙ A.words ∙ ap (λ (ws : List Word). ws ++ one Halt n) (q'.wrote.words ∙ ap (λ (ws : List Word). ws ++ code_c c [] 0) empty) ∙ ap (λ (k : ℕ). code_c c [] 0 ++ one Halt k) (sym j),
       )
-
-  pub program-refused : {r : Result (List Word) Refusal} {x : Refusal} → (y : Refusal) × (r ≡ Err y) × (y ≡ x) → TranslatedC (tree_c (nodes t) root) t u (Err x) → ProgramOf (tree_c (nodes t) root) r
-  program-refused (y, e, f) q =
-      let q' = part_c root refl none (ap length empty) q in
-      subst (λ (r : Result (List Word) Refusal). ProgramOf (tree_c (nodes t) root) r) (sym (e ∙ ap Err f)) (sym q'.answer)

@@ -1,4 +1,4 @@
-// Declarations. The cycle of calls that they are in with commands is told there.
+// Declarations, in the cycle of calls that `command` begins.
 ghost use Rattle.std.specs.Prelude.{◌≡◌};
 ghost use Rattle.language.specs.Reading.{tree_d};
 ghost use Rattle.language.specs.Table.{at};
@@ -19,8 +19,8 @@ impl Translator<'_> {
     {
         let node = self.node(n);
         match self.shaped.kind(n) {
-            Kind::Constant => self.value(n, Instruction::Bind),
-            Kind::Variable => self.value(n, Instruction::New),
+            Kind::Constant => self.value_declaration(n, Instruction::Bind),
+            Kind::Variable => self.value_declaration(n, Instruction::New),
             Kind::Procedure => self.routine(n, Role::Procedure),
             Kind::Function => self.routine(n, Role::Function),
             Kind::Pair => {
@@ -32,7 +32,7 @@ impl Translator<'_> {
     }
 
     // A constant has its value by BIND, a variable a cell with it by NEW.
-    fn value(&mut self, n: u16, instruction: Instruction) -> Result<(), Refusal>
+    fn value_declaration(&mut self, n: u16, instruction: Instruction) -> Result<(), Refusal>
         requires ready { ReadyD self.old n }
         requires kind { Introduces instruction (at (nodes self.old) n).kind }
         ensures { TranslatedD (tree_d (nodes self.old) n) self.old self.new result }

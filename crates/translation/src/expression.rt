@@ -74,6 +74,7 @@ impl Translator<'_> {
         Ok(())
     }
 
+    // As `conditional`, and apart from it by a rule of the project: commands go round in a cycle, and expressions call themselves.
     #[cycle(expressions)]
     fn choice(&mut self, n: u16) -> Result<(), Refusal>
         requires ready { ReadyE self.old n }

@@ -52,7 +52,8 @@ impl Scope {
         })
     }
 
-    // The number of entries newer than a name's, where the name at `node` has the role that is wanted.
+    // The number of entries newer than a name's, where the name at `node` has the role that is wanted. A rule of the project has
+    // the `let .. else`.
     pub fn resolve(&self, name: u8, role: Role, node: u16) -> Result<u16, Refusal>
         ensures { Resolved node role (place_of (visible self.now) name) result }
     {

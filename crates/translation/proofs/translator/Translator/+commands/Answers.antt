@@ -1,5 +1,4 @@
 use Rattle.std.proofs.Common.{◌+◌, ◌<◌, length, sym, refl, ap, ◌∙◌, arith, rules}
-use Rattle.std.proofs.lemmas.Result.{err_from_is_err_and}
 use Rattle.language.specs.Kinds.{kind_number}
 use Rattle.language.specs.Names.{names_c, names_d}
 use Rattle.language.specs.Reading.{tree_c}
@@ -23,7 +22,7 @@ unfolding names_c
 command-returns-in_err-plain_value-in-Output t c =
     let k = at_c c.node-node.ensures (sym c.kind.ensures ∙ ap kind_number c.in-Output.is) c.requires in
     let p = c.in_err-plain_value-in-Output.ensures.is in
-    refused_c (err_from_is_err_and c.from_residual.result c.from_residual.ensures.1) k.0 p.answer p.same p.on
+    refused_c c.from_residual.result c.from_residual.ensures.1 k.0 p.answer p.same p.on
 
 pub command-emit-requires : goal.command-emit-requires
 command-emit-requires t c =
@@ -45,7 +44,7 @@ unfolding names_c
 command-returns-in_err-command-in-Sequence t c =
     let k = at_c c.node-node.ensures (sym c.kind.ensures ∙ ap kind_number c.in-Sequence.is) c.requires in
     let p = c.in_err-command-in-Sequence.ensures.is in
-    refused_c (err_from_is_err_and c.from_residual-in_err-command-in-Sequence.result c.from_residual-in_err-command-in-Sequence.ensures.1) k.0 (first _ p.answer) p.same p.on
+    refused_c c.from_residual-in_err-command-in-Sequence.result c.from_residual-in_err-command-in-Sequence.ensures.1 k.0 (first _ p.answer) p.same p.on
 
 pub command-command-requires-in-Sequence : goal.command-command-requires-in-Sequence
 command-command-requires-in-Sequence t c =
@@ -80,7 +79,7 @@ unfolding names_d
 declaration-returns-in_err-declaration-in-Pair t c =
     let k = at_d c.args.self.now c.node-node.ensures (sym c.kind.ensures ∙ ap kind_number c.in-Pair.is) c.requires.here c.requires.sort in
     let p = c.in_err-declaration-in-Pair.ensures in
-    refused_d (err_from_is_err_and c.from_residual.result c.from_residual.ensures.1) k.0 (first _ p.answer) p.older p.on
+    refused_d c.from_residual.result c.from_residual.ensures.1 k.0 (first _ p.answer) p.older p.on
 
 pub declaration-declaration-requires-in-Pair : goal.declaration-declaration-requires-in-Pair
 declaration-declaration-requires-in-Pair t c =
@@ -103,7 +102,7 @@ unfolding names_c
 conditional-returns-in_err-plain_value t c =
     let k = at_c c.node-node.ensures c.requires.kind c.requires.ready in
     let p = c.in_err-plain_value.ensures.is in
-    refused_c (err_from_is_err_and c.from_residual.result c.from_residual.ensures.1) k.0 (first _ p.answer) p.same p.on
+    refused_c c.from_residual.result c.from_residual.ensures.1 k.0 (first _ p.answer) p.same p.on
 
 pub conditional-reserve-past-requires : goal.conditional-reserve-past-requires
 conditional-reserve-past-requires t c =
@@ -126,7 +125,7 @@ conditional-returns-in_err-command t c =
     let k = at_c c.node-node.ensures c.requires.kind c.requires.ready in
     let p = c.in_ok-plain_value.ensures.is in
     let q = part_c _ p.on (ap visible p.same) refl c.in_err-command.ensures in
-    refused_c (err_from_is_err_and c.from_residual-in_err-command.result c.from_residual-in_err-command.ensures.1) k.0 (second p.answer (first _ q.answer)) (q.same ∙ p.same) (q.on ∙ p.on)
+    refused_c c.from_residual-in_err-command.result c.from_residual-in_err-command.ensures.1 k.0 (second p.answer (first _ q.answer)) (q.same ∙ p.same) (q.on ∙ p.on)
 
 pub conditional-reserve-end-requires : goal.conditional-reserve-end-requires
 conditional-reserve-end-requires t c =
@@ -154,7 +153,7 @@ conditional-returns-in_err-command-2 t c =
     let p = c.in_ok-plain_value.ensures.is in
     let q = part_c _ p.on (ap visible p.same) refl c.in_ok-command.ensures in
     let r = part_c _ (q.on ∙ p.on) (ap visible (q.same ∙ p.same)) refl c.in_err-command-2.ensures in
-    refused_c (err_from_is_err_and c.from_residual-in_err-command-2.result c.from_residual-in_err-command-2.ensures.1) k.0 (second p.answer (second q.answer r.answer)) (r.same ∙ q.same ∙ p.same) (r.on ∙ q.on ∙ p.on)
+    refused_c c.from_residual-in_err-command-2.result c.from_residual-in_err-command-2.ensures.1 k.0 (second p.answer (second q.answer r.answer)) (r.same ∙ q.same ∙ p.same) (r.on ∙ q.on ∙ p.on)
 
 pub conditional-returns : goal.conditional-returns
 conditional-returns t c =
@@ -171,7 +170,7 @@ unfolding names_c
 repetition-returns-in_err-plain_value t c =
     let k = at_c c.node-node.ensures c.requires.kind c.requires.ready in
     let p = c.in_err-plain_value.ensures.is in
-    refused_c (err_from_is_err_and c.from_residual.result c.from_residual.ensures.1) k.0 (first _ p.answer) p.same p.on
+    refused_c c.from_residual.result c.from_residual.ensures.1 k.0 (first _ p.answer) p.same p.on
 
 pub repetition-reserve-past-requires : goal.repetition-reserve-past-requires
 repetition-reserve-past-requires t c =
@@ -194,7 +193,7 @@ repetition-returns-in_err-command t c =
     let k = at_c c.node-node.ensures c.requires.kind c.requires.ready in
     let p = c.in_ok-plain_value.ensures.is in
     let q = part_c _ p.on (ap visible p.same) refl c.in_err-command.ensures in
-    refused_c (err_from_is_err_and c.from_residual-in_err-command.result c.from_residual-in_err-command.ensures.1) k.0 (second p.answer q.answer) (q.same ∙ p.same) (q.on ∙ p.on)
+    refused_c c.from_residual-in_err-command.result c.from_residual-in_err-command.ensures.1 k.0 (second p.answer q.answer) (q.same ∙ p.same) (q.on ∙ p.on)
 
 pub repetition-emit-requires : goal.repetition-emit-requires
 repetition-emit-requires t c =
@@ -228,7 +227,7 @@ block-returns-in_err-declaration t c =
     let k = at_c c.node-node.ensures c.requires.kind c.requires.ready in
     let p = c.in_err-declaration.ensures in
     let m = c.drop-block.ensures in
-    refused_c (err_from_is_err_and c.from_residual.result c.from_residual.ensures.1) k.0 (first _ p.answer) (restored c.len-was.ensures.value p.older m) (m.on ∙ p.on)
+    refused_c c.from_residual.result c.from_residual.ensures.1 k.0 (first _ p.answer) (restored c.len-was.ensures.value p.older m) (m.on ∙ p.on)
 
 pub block-command-requires : goal.block-command-requires
 block-command-requires t c =
@@ -247,7 +246,7 @@ block-returns-in_err-command t c =
     let p = c.in_ok-declaration.ensures in
     let q = part_c _ p.on p.declared.0 refl c.in_err-command.ensures in
     let m = c.drop-block-in_err-command.ensures in
-    refused_c (err_from_is_err_and c.from_residual-in_err-command.result c.from_residual-in_err-command.ensures.1) k.0 (second p.answer q.answer) (restored c.len-was.ensures.value (older_trans p.older (older_same q.same)) m) (m.on ∙ q.on ∙ p.on)
+    refused_c c.from_residual-in_err-command.result c.from_residual-in_err-command.ensures.1 k.0 (second p.answer q.answer) (restored c.len-was.ensures.value (older_trans p.older (older_same q.same)) m) (m.on ∙ q.on ∙ p.on)
 
 pub block-emit-requires-2 : goal.block-emit-requires-2
 block-emit-requires-2 t c =

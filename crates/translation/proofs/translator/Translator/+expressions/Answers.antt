@@ -1,5 +1,4 @@
 use Rattle.std.proofs.Common.{sym, refl, ap, ◌∙◌, arith, w32, SFits, rules}
-use Rattle.std.proofs.lemmas.Result.{err_from_is_err_and}
 use Rattle.std.proofs.lemmas.Int.{to_z-of_z}
 use Rattle.vocabulary.specs.declared.node.Node.{Node}
 use Rattle.language.specs.Kinds.{kind_number}
@@ -33,7 +32,7 @@ unfolding names_e
 choice-returns-in_err-plain_value t c =
     let k = at_e c.node-node.ensures c.requires.kind c.requires.ready in
     let p = c.in_err-plain_value.ensures.is in
-    refused_e (err_from_is_err_and c.from_residual.result c.from_residual.ensures.1) k.0 (first _ p.answer) p.same p.on
+    refused_e c.from_residual.result c.from_residual.ensures.1 k.0 (first _ p.answer) p.same p.on
 
 pub choice-reserve-past-requires : goal.choice-reserve-past-requires
 choice-reserve-past-requires t c =
@@ -52,7 +51,7 @@ choice-returns-in_err-expression t c =
     let k = at_e c.node-node.ensures c.requires.kind c.requires.ready in
     let p = c.in_ok-plain_value.ensures.is in
     let q = part_e _ p.on (ap visible p.same) refl c.in_err-expression.ensures in
-    refused_e (err_from_is_err_and c.from_residual-in_err-expression.result c.from_residual-in_err-expression.ensures.1) k.0 (second p.answer (first _ q.answer)) (q.same ∙ p.same) (q.on ∙ p.on)
+    refused_e c.from_residual-in_err-expression.result c.from_residual-in_err-expression.ensures.1 k.0 (second p.answer (first _ q.answer)) (q.same ∙ p.same) (q.on ∙ p.on)
 
 pub choice-reserve-end-requires : goal.choice-reserve-end-requires
 choice-reserve-end-requires t c =
@@ -77,7 +76,7 @@ choice-returns-in_err-expression-2 t c =
     let p = c.in_ok-plain_value.ensures.is in
     let q = part_e _ p.on (ap visible p.same) refl c.in_ok-expression.ensures in
     let r = part_e _ (q.on ∙ p.on) (ap visible (q.same ∙ p.same)) refl c.in_err-expression-2.ensures in
-    refused_e (err_from_is_err_and c.from_residual-in_err-expression-2.result c.from_residual-in_err-expression-2.ensures.1) k.0 (second p.answer (second q.answer r.answer)) (r.same ∙ q.same ∙ p.same) (r.on ∙ q.on ∙ p.on)
+    refused_e c.from_residual-in_err-expression-2.result c.from_residual-in_err-expression-2.ensures.1 k.0 (second p.answer (second q.answer r.answer)) (r.same ∙ q.same ∙ p.same) (r.on ∙ q.on ∙ p.on)
 
 pub choice-returns : goal.choice-returns
 choice-returns t c =
@@ -118,7 +117,7 @@ pub expression-returns-in_err-newer-in-Name : goal.expression-returns-in_err-new
 unfolding names_e
 expression-returns-in_err-newer-in-Name t c =
     let k = at_e c.node-node.ensures (sym c.kind.ensures ∙ ap kind_number c.in-Name.is) c.requires in
-    refused_e (err_from_is_err_and c.from_residual.result c.from_residual.ensures.1) k.0 (sym c.in_err-newer-in-Name.ensures) refl refl
+    refused_e c.from_residual.result c.from_residual.ensures.1 k.0 (sym c.in_err-newer-in-Name.ensures) refl refl
 
 pub expression-returns-in_ok-newer-in-Name : goal.expression-returns-in_ok-newer-in-Name
 expression-returns-in_ok-newer-in-Name t c =
@@ -135,7 +134,7 @@ unfolding names_e
 expression-returns-in_err-plain_value-in-Operation t c =
     let k = at_e c.node-node.ensures (sym c.kind.ensures ∙ ap kind_number c.in-Operation.is) c.requires in
     let p = c.in_err-plain_value-in-Operation.ensures.is in
-    refused_e (err_from_is_err_and c.from_residual-in_err-plain_value-in-Operation.result c.from_residual-in_err-plain_value-in-Operation.ensures.1) k.0 (first _ p.answer) p.same p.on
+    refused_e c.from_residual-in_err-plain_value-in-Operation.result c.from_residual-in_err-plain_value-in-Operation.ensures.1 k.0 (first _ p.answer) p.same p.on
 
 pub expression-plain_value-requires-in-Operation : goal.expression-plain_value-requires-in-Operation
 expression-plain_value-requires-in-Operation t c =
@@ -149,7 +148,7 @@ expression-returns-in_err-plain_value-in-Operation-2 t c =
     let k = at_e c.node-node.ensures (sym c.kind.ensures ∙ ap kind_number c.in-Operation.is) c.requires in
     let p = c.in_ok-plain_value-in-Operation.ensures.is in
     let q = part_plain _ p.on (ap visible p.same) refl c.in_err-plain_value-in-Operation-2.ensures in
-    refused_e (err_from_is_err_and c.from_residual-in_err-plain_value-in-Operation-2.result c.from_residual-in_err-plain_value-in-Operation-2.ensures.1) k.0 (second p.answer q.answer) (q.same ∙ p.same) (q.on ∙ p.on)
+    refused_e c.from_residual-in_err-plain_value-in-Operation-2.result c.from_residual-in_err-plain_value-in-Operation-2.ensures.1 k.0 (second p.answer q.answer) (q.same ∙ p.same) (q.on ∙ p.on)
 
 pub expression-emit-requires-in-Operation : goal.expression-emit-requires-in-Operation
 expression-emit-requires-in-Operation t c =
