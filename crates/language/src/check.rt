@@ -99,6 +99,13 @@ fn first_fault(tallies: &[u16]) -> Option<usize>
 }
 
 impl Counted<'_> {
+    // The number of the last node, which is the root.
+    fn root(self) -> usize
+        ensures { result ≡ root_of self.entry.nodes.now }
+    {
+        self.nodes.len() - 1
+    }
+
     // Whether there is a node of a sort at a place.
     fn has(self, sort: Sort, place: usize) -> bool
         ensures { result ≡ is_of sort (at self.entry.nodes.now place).kind }
@@ -121,7 +128,7 @@ impl Counted<'_> {
             .all(|child| self.has(child.wanted, usize::from(child.number)))
     }
 
-    // A node by itself: the first of its faults.
+    // A node by itself: the first of its faults. By ranges of kinds with guards, as a rule of the project has the node check.
     fn check_node(self, n: usize, node: Node) -> Result<(), Refusal>
         requires here { n < length self.nodes.now }
         requires is { node ≡ at self.nodes.now n }
@@ -170,23 +177,21 @@ impl Counted<'_> {
         requires { (n : ℕ) → n < length self.nodes.now → lower n (children (at self.nodes.now n)) ≡ true }
         ensures { result ≡ upward (parent_verdict self.entry.nodes.now) (root_of self.entry.nodes.now) 0 }
     {
-        let tallies = self.tally();
-        let last = self.nodes.len() - 1;
-        match first_fault(&tallies[..last]) {
+        match first_fault(&self.tally()[..self.root()]) {
             Some(n) => Err(Cause::NotOneParent.at(n as u16)),
             None => Ok(()),
         }
     }
 
-    // The last node, which is the root, is a command.
+    // The root is a command.
     fn check_root(self) -> Result<(), Refusal>
         ensures { result ≡ root_verdict self.entry.nodes.now }
     {
-        let last = self.nodes.len() - 1;
-        if self.has(Sort::Command, last) {
+        let root = self.root();
+        if self.has(Sort::Command, root) {
             Ok(())
         } else {
-            Err(Cause::RootNotCommand.at(last as u16))
+            Err(Cause::RootNotCommand.at(root as u16))
         }
     }
 }

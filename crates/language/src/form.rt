@@ -10,7 +10,7 @@ use std::fmt;
 use vocabulary::code::Operation;
 use vocabulary::node::Node;
 
-// The number of which a node has the halves.
+// The number of which a node has the halves; as two numbers of 16 bits they are no four bytes to read it from.
 pub fn number_in(node: Node) -> i32
     ensures { result ≡ number_in node }
 {

@@ -1,3 +1,4 @@
+// Kinds of nodes: their numbers, sorts and words, and the rules of their fields.
 ghost use Rattle.std.specs.Prelude.{◌≡◌, true, Some};
 ghost use Rattle.language.specs.Fields.{fields_of, is_of};
 ghost use Rattle.language.specs.Kinds.{kind_number, kind_words, sort_words, Decodes};

@@ -1,3 +1,4 @@
+// What each field of a node has to hold, and the children that its fields name.
 ghost use Rattle.std.specs.Prelude.{◌≡◌};
 ghost use Rattle.language.specs.Fields.{fields_in, admits, children};
 

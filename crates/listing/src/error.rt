@@ -24,6 +24,7 @@ impl fmt::Display for ListingError {
 
 impl Error for ListingError {}
 
+// By hand, since the `From` that a derive writes has no contract, and a listing's answer tells the two apart.
 impl From<Refusal> for ListingError {
     ghost from_gives = { λ refusal r. r ≡ NoTree refusal };
 
