@@ -1,15 +1,11 @@
 -- Each form of expression, from its parts.
 use Rattle.std.proofs.Common.{◌≡◌, ℕ, suc, length, ℤ, Ok, sym, refl, ap, ◌∙◌, subst}
-use Rattle.vocabulary.specs.declared.code.Instruction.TheVariants.{Num, Look, Deref, Op, JumpFalse, Jump, Call}
+use Rattle.vocabulary.specs.declared.code.Instruction.TheVariants.{Num, Look, Deref, Op, JumpFalse, Jump}
 use Rattle.vocabulary.specs.declared.code.Operation.{Operation}
-use Rattle.vocabulary.specs.declared.node.Node.{Node}
-use Rattle.vocabulary.specs.Refusals.{Verdict}
-use Rattle.language.specs.declared.name.Role.{Role}
 use Rattle.language.specs.declared.name.Role.TheVariants.{Value}
 use Rattle.language.specs.Names.{names_e}
 use Rattle.language.specs.Reading.{tree_e}
 use Rattle.language.specs.Scope.{place_of}
-use Rattle.language.specs.Table.{at}
 use Rattle.language.specs.Translation.{one, word, behind_e}
 use Rattle.language.specs.Tree.{Expression, node_e}
 use Rattle.language.specs.Tree.Expression.{number, name, operation, choice}
@@ -17,13 +13,9 @@ use Rattle.translation.specs.declared.translator.Translator.{Translator}
 use Rattle.translation.specs.declared.writer.Gap.{Gap}
 use Rattle.translation.specs.declared.writer.Writer.{Writer}
 use Rattle.translation.specs.Held.{text, visible, Added, Aimed, Reserved, Resolved}
-use Rattle.translation.specs.Translated.{nodes, next, TranslatedE, TranslatedPlain, TranslatedCall}
+use Rattle.translation.specs.Translated.{nodes, next, TranslatedE, TranslatedPlain}
 use Rattle.translation.proofs.Parts.{part_e, part_plain, second, with_code}
 use Rattle.translation.proofs.Writing.{added_then, step, branched}
-
--- a call, read from its node
-pub same_call : {t u : Translator} {n : ℕ} {role : Role} {r : Verdict} {d : Node} → d ≡ at (nodes t) n → TranslatedCall n role d.tag (tree_e (nodes t) d.a) t u r → TranslatedCall n role (at (nodes t) n).tag (tree_e (nodes t) (at (nodes t) n).a) t u r
-same_call {t} {u} {n} {role} {r} e h = subst (λ (d : Node). TranslatedCall n role d.tag (tree_e (nodes t) d.a) t u r) e h
 
 module _ {t : Translator} {n : ℕ} where
   pub number_done : {y z : ℤ} {d : Writer} → y ≡ z → Added t.code d (one (Num y) n) (suc (next t)) → TranslatedE (number n z) t (with_code t d) (Ok tt)
@@ -38,11 +30,6 @@ module _ {t : Translator} {n : ℕ} where
   plain_done {e} {u} {d} i p q =
       let W = subst (λ (k : ℕ). Added u.code d (one Deref k) (suc (behind_e e (next t)))) (sym i) (step p.is.wrote.end q) in
       record { is = record { answer = p.is.answer; wrote = added_then p.is.wrote W; same = p.is.same; on = p.is.on } }
-
-  pub call_done : {role : Role} {f : ℕ} {a : Expression} {u : Translator} {d : Writer} {k : ℕ} → Resolved n role (place_of (visible t.scope) f) (Ok k) → TranslatedE a t u (Ok tt) → Added u.code d (one (Call k) n) (suc (next u)) → TranslatedCall n role f a t (with_code u d) (Ok tt)
-  call_done {role} {f} {a} {u} {d} (v, i) p w =
-      let W = subst (λ (j : ℕ). Added u.code d (one (Call j) n) (suc (behind_e a (next t)))) i (step p.is.wrote.end w) in
-      record { is = record { answer = second (sym v) p.is.answer; wrote = added_then p.is.wrote W; same = p.is.same; on = p.is.on } }
 
   pub operation_done : (a b : ℕ) {o k : Operation} {u v : Translator} {d : Writer} → k ≡ o → TranslatedPlain (tree_e (nodes t) a) t u (Ok tt) → TranslatedPlain (tree_e (nodes u) b) u v (Ok tt) → Added v.code d (one (Op k) n) (suc (next v))
       → TranslatedE (operation n o (tree_e (nodes t) a) (tree_e (nodes t) b)) t (with_code v d) (Ok tt)

@@ -1,6 +1,7 @@
 -- The translation of a child, said of the tree, the names and the position of its node.
-use Rattle.std.proofs.Common.{◌≡◌, ℕ, ◌+◌, ◌*◌, ◌<◌, ◌≤◌, List, [], length, Ok, Err, sym, ap, ◌∙◌, subst, arith, length-append}
-use Rattle.std.specs.Result.{result_and}
+use Rattle.std.proofs.Common.{◌≡◌, ℕ, ◌+◌, ◌*◌, ◌<◌, ◌≤◌, List, [], length, Ok, Err, Result, sym, ap, ◌∙◌, subst, arith, length-append}
+use Rattle.std.specs.Result.{result_and, IsErrAnd}
+use Rattle.std.proofs.lemmas.Result.{err_from_is_err_and}
 use Rattle.vocabulary.specs.declared.code.Word.{Word}
 use Rattle.vocabulary.specs.declared.node.Node.{Node}
 use Rattle.vocabulary.specs.declared.refusal.Refusal.{Refusal}
@@ -106,10 +107,14 @@ second {u} {v} {w} p q = q ∙ ap (λ (k : Verdict). result_and k v) p
 pub first : {u : Verdict} {x : Refusal} (v : Verdict) → Err x ≡ u → Err x ≡ result_and u v
 first v p = ap (λ (k : Verdict). result_and k v) p
 
+-- a refusal that goes on by `?` is the same refusal
+pub passed : {T : Type 0} {x : Refusal} (r : Result T Refusal) → IsErrAnd r (λ y. y ≡ x) → r ≡ Err x
+passed r e = let w = err_from_is_err_and r e in w.1 ∙ ap Err w.2
+
 -- a refusal that goes on by `?`, where it is the verdict
-pub refused : {v : Verdict} {ws : List Word} {p : ℕ} {t u : Translator} {r : Verdict} {x : Refusal} → (y : Refusal) × (r ≡ Err y) × (y ≡ x) → Err x ≡ v → u.scope ≡ t.scope → nodes u ≡ nodes t → Translated v ws p t u r
-refused {v} {ws} {p} {t} {u} (y, e, f) h s o =
-    let i : _ ≡ Err _ = e ∙ ap Err f in
+pub refused : {v : Verdict} {ws : List Word} {p : ℕ} {t u : Translator} {x : Refusal} (r : Verdict) → IsErrAnd r (λ y. y ≡ x) → Err x ≡ v → u.scope ≡ t.scope → nodes u ≡ nodes t → Translated v ws p t u r
+refused {ws = ws} {p} {t} {u} {x} r e h s o =
+    let i : r ≡ Err x = passed r e in
     record { answer = i ∙ h; wrote = subst (λ (w : Verdict). Wrote t.code u.code ws p w) (sym i) tt; same = s; on = o }
 
 -- the same node, read as a tree
@@ -122,15 +127,15 @@ same_c {t = t} {u} {r} i h = subst (λ (x : Command). TranslatedC x t u r) (sym 
 pub same_d : {e f : Declaration} {t u : Translator} {r : Verdict} → e ≡ f → TranslatedD f t u r → TranslatedD e t u r
 same_d {t = t} {u} {r} i h = subst (λ (x : Declaration). TranslatedD x t u r) (sym i) h
 
-pub refused_e : {e f : Expression} {t u : Translator} {r : Verdict} {x : Refusal} → (y : Refusal) × (r ≡ Err y) × (y ≡ x) → e ≡ f → Err x ≡ names_e f (visible t.scope) → u.scope ≡ t.scope → nodes u ≡ nodes t → TranslatedE e t u r
-refused_e {t = t} i k h s o = record { is = refused i (h ∙ sym (ap (λ (w : Expression). names_e w (visible t.scope)) k)) s o }
+pub refused_e : {e f : Expression} {t u : Translator} {x : Refusal} (r : Verdict) → IsErrAnd r (λ y. y ≡ x) → e ≡ f → Err x ≡ names_e f (visible t.scope) → u.scope ≡ t.scope → nodes u ≡ nodes t → TranslatedE e t u r
+refused_e {t = t} r i k h s o = record { is = refused r i (h ∙ sym (ap (λ (w : Expression). names_e w (visible t.scope)) k)) s o }
 
-pub refused_c : {e f : Command} {t u : Translator} {r : Verdict} {x : Refusal} → (y : Refusal) × (r ≡ Err y) × (y ≡ x) → e ≡ f → Err x ≡ names_c f (visible t.scope) → u.scope ≡ t.scope → nodes u ≡ nodes t → TranslatedC e t u r
-refused_c {t = t} i k h s o = record { is = refused i (h ∙ sym (ap (λ (w : Command). names_c w (visible t.scope)) k)) s o }
+pub refused_c : {e f : Command} {t u : Translator} {x : Refusal} (r : Verdict) → IsErrAnd r (λ y. y ≡ x) → e ≡ f → Err x ≡ names_c f (visible t.scope) → u.scope ≡ t.scope → nodes u ≡ nodes t → TranslatedC e t u r
+refused_c {t = t} r i k h s o = record { is = refused r i (h ∙ sym (ap (λ (w : Command). names_c w (visible t.scope)) k)) s o }
 
-pub refused_d : {e f : Declaration} {t u : Translator} {r : Verdict} {x : Refusal} → (y : Refusal) × (r ≡ Err y) × (y ≡ x) → e ≡ f → Err x ≡ names_d f (visible t.scope) → Older t.scope u.scope → nodes u ≡ nodes t → TranslatedD e t u r
-refused_d {e} {t = t} {u} (y, i, j) k h s o =
-    let a : _ ≡ Err _ = i ∙ ap Err j in
+pub refused_d : {e f : Declaration} {t u : Translator} {x : Refusal} (r : Verdict) → IsErrAnd r (λ y. y ≡ x) → e ≡ f → Err x ≡ names_d f (visible t.scope) → Older t.scope u.scope → nodes u ≡ nodes t → TranslatedD e t u r
+refused_d {e} {t = t} {u} {x} r i k h s o =
+    let a : r ≡ Err x = passed r i in
     record {
       answer = a ∙ h ∙ sym (ap (λ (w : Declaration). names_d w (visible t.scope)) k);
       wrote = subst (λ (w : Verdict). Wrote t.code u.code (code_d e (visible t.scope) (next t)) (behind_d e (next t)) w) (sym a) tt;

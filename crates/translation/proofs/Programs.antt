@@ -1,6 +1,6 @@
 -- The code of a whole program: that of its root, and the HALT.
 use Rattle.std.proofs.lemmas.List.{length-reverse}
-use Rattle.std.proofs.Common.{◌≡◌, ℕ, suc, arith, List, [], ◌++◌, length, Ok, Err, Result, sym, refl, ap, ◌∙◌, subst}
+use Rattle.std.proofs.Common.{◌≡◌, ℕ, suc, arith, List, [], ◌++◌, length, Ok, Result, sym, refl, ap, ◌∙◌, subst}
 use Rattle.vocabulary.specs.declared.code.Instruction.TheVariants.{Halt}
 use Rattle.vocabulary.specs.declared.code.Word.{Word}
 use Rattle.vocabulary.specs.declared.node.Node.{Node}
@@ -42,13 +42,7 @@ module _ {t u : Translator} (root : ℕ) (none : visible t.scope ≡ []) (empty 
   pub program_done : {d : Writer} {n : ℕ} {w : List Word} → node_c (tree_c (nodes t) root) ≡ n → TranslatedC (tree_c (nodes t) root) t u (Ok tt) → Added u.code d (one Halt n) (suc (next u)) → w ≡ text d → ProgramOf (tree_c (nodes t) root) (Ok w)
   program_done {n = n} j q A e =
       let c = tree_c (nodes t) root in
-      let q' = part_c root refl none (ap length empty) q in
-      (
+      let q' = part_c root refl none (ap length empty) q in (
         sym q'.answer,
         e ∙ A.words ∙ ap (λ (ws : List Word). ws ++ one Halt n) (q'.wrote.words ∙ ap (λ (ws : List Word). ws ++ code_c c [] 0) empty) ∙ ap (λ (k : ℕ). code_c c [] 0 ++ one Halt k) (sym j),
       )
-
-  pub program-refused : {r : Result (List Word) Refusal} {x : Refusal} → (y : Refusal) × (r ≡ Err y) × (y ≡ x) → TranslatedC (tree_c (nodes t) root) t u (Err x) → ProgramOf (tree_c (nodes t) root) r
-  program-refused (y, e, f) q =
-      let q' = part_c root refl none (ap length empty) q in
-      subst (λ (r : Result (List Word) Refusal). ProgramOf (tree_c (nodes t) root) r) (sym (e ∙ ap Err f)) (sym q'.answer)

@@ -42,7 +42,7 @@ branched {c} {f = f} {i = i} {j} {x} {y} {z} {n} {l} {m} {q = q} {r} {k} {k'} a 
     let front = x ++ (one (JumpFalse (suc q)) n ++ y) in
     let regroup : (x ++ (one (JumpFalse (suc q)) n ++ (y ++ one Halt n))) ++ z ≡ front ++ (one Halt n ++ z) = simp append_assoc in
     let place : length (text f) ≡ length (text c) + length front =
-        counted (added_then a (added_then b.added u)) ∙ ap (λ (t : ℕ). length (text c) + t) (length-append x (one Halt n ++ y) ∙ sym (length-append x (one (JumpFalse (suc q)) n ++ y))) in
+    counted (added_then a (added_then b.added u)) ∙ ap (λ (t : ℕ). length (text c) + t) (length-append x (one Halt n ++ y) ∙ sym (length-append x (one (JumpFalse (suc q)) n ++ y))) in
     let B' = subst (λ (t : ℕ). Aimed i j k'.at (word (Jump t) n)) (o ∙ s.end) (subst (λ (t : ℕ). Aimed i j k'.at (word (Jump m) t)) v.of_node B) in
     let all = replaced front z (word Halt n) (subst (λ (ws : List Word). Added c i ws r) regroup first) (v.here ∙ place) B' in
     subst (λ (ws : List Word). Added c j ws r) (append_assoc x (one (JumpFalse (suc q)) n ++ y) (one (Jump r) n ++ z)) all

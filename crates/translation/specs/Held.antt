@@ -1,5 +1,6 @@
 -- What the translator's tables hold, and what its functions do to them.
-use Rattle.std.specs.Prelude.{◌≡◌, ℕ, suc, ◌≤◌, List, ◌∷◌, ◌++◌, reverse, length, take, Ok, Err, Option, Result, slice_set}
+use Rattle.std.specs.Prelude.{◌≡◌, ◌≢◌, ℕ, suc, ◌<◌, ◌≤◌, List, ◌∷◌, ◌++◌, reverse, length, take, Ok, Err, Option, Result, slice_set}
+use Rattle.std.specs.List.{HoldsAt}
 use Rattle.vocabulary.specs.declared.code.Instruction.TheVariants.{Halt}
 use Rattle.vocabulary.specs.declared.code.Word.{Word}
 use Rattle.vocabulary.specs.declared.refusal.Refusal.{Refusal}
@@ -47,6 +48,13 @@ pub record Bound (s t : Scope) (e : Entry) : Type 0 where
   pub older : Older s t
   pub seen : visible t ≡ e ∷ visible s
   pub more : length t.entries ≡ suc (length s.entries)
+
+-- no entry has a name; and where its newest entry stands, counted from the oldest of all
+abbrev pub Unnamed : List Entry → ℕ → Type 0
+Unnamed entries name = (k : ℕ) → k < length entries → HoldsAt (λ e. e.name ≢ name) entries k
+
+abbrev pub NewestAt : List Entry → ℕ → ℕ → Type 0
+NewestAt entries name n = (n < length entries) × HoldsAt (λ e. e.name ≡ name) entries n × ((k : ℕ) → n < k → k < length entries → HoldsAt (λ e. e.name ≢ name) entries k)
 
 -- the answer for a name that is wanted in a role at a node, given its newest entry
 abbrev pub Resolved : ℕ → Role → Option Place → Result ℕ Refusal → Type 0

@@ -50,7 +50,7 @@ pub record ReadyD (t : Translator) (n : ℕ) : Type 0 where
   pub room : next t + 3 * size_d (tree_d (nodes t) n) ≤ 1537
   pub names : length t.scope.entries + size_d (tree_d (nodes t) n) ≤ 512
 
--- the node is there, its argument is an expression below it, and both have room
+-- a call: the node is there, its argument is an expression below it, and both have room
 pub record ReadyCall (t : Translator) (n : ℕ) : Type 0 where
   pub here : n < length (nodes t)
   pub argument : LowerE (nodes t) n (at (nodes t) n).a
@@ -97,21 +97,22 @@ pub record TranslatedD (d : Declaration) (t u : Translator) (r : Verdict) : Type
   pub declared : Declared t.scope u.scope d r
   pub on : nodes u ≡ nodes t
 
--- the declarations that end in an instruction, and those that make a name of a role: the kind of the node
+-- the kind of the declarations that end in an instruction: a constant is bound, a variable is made
 abbrev pub Introduces : Instruction → ℕ → Type 0
 Introduces i kind = ((i ≡ Bind) × (kind ≡ kind_number Constant)) ⊎ ((i ≡ New) × (kind ≡ kind_number Variable))
 
+-- the kind of the declarations of a role, which enclose a body
 abbrev pub Encloses : Role → ℕ → Type 0
 Encloses role kind = ((role ≡ Procedure) × (kind ≡ kind_number procedure_kind)) ⊎ ((role ≡ Function) × (kind ≡ kind_number function_kind))
 
--- the same as of its declaration, of which two words are written
+-- the body of a routine relies on what its declaration relies on, with two words of it written
 pub record ReadyBody (t : Translator) (n : ℕ) : Type 0 where
   pub here : n < length (nodes t)
   pub sort : IsD (nodes t) n
   pub room : next t + 3 * size_d (tree_d (nodes t) n) ≤ 1539
   pub names : length t.scope.entries + size_d (tree_d (nodes t) n) ≤ 512
 
--- the body of a routine, where its parameter is visible
+-- the code of the body, where the parameter is visible, and the position behind it
 abbrev pub body_code : Declaration → List Entry → ℕ → List Word
 body_code (procedure nd x a y) sc p = code_c a (scope_inside y sc) p
 body_code (function nd x a y) sc p = code_e a (scope_inside y sc) p
@@ -122,6 +123,7 @@ body_end (procedure nd x a y) p = behind_c a p
 body_end (function nd x a y) p = behind_e a p
 body_end _ p = p
 
+-- the body of the routine that d declares: the verdict on its names is that of d
 pub record TranslatedBody (d : Declaration) (t u : Translator) (r : Verdict) : Type 0 where
   pub is : Translated (names_d d (visible t.scope)) (body_code d (visible t.scope) (next t)) (body_end d (next t)) t u r
 

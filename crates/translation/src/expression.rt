@@ -74,6 +74,7 @@ impl Translator<'_> {
         Ok(())
     }
 
+    // As `conditional`. (a) A rule of the project keeps the two apart: commands go round in a cycle, and expressions call themselves.
     #[cycle(expressions)]
     fn choice(&mut self, n: u16) -> Result<(), Refusal>
         requires ready { ReadyE self.old n }

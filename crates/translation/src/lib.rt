@@ -5,6 +5,7 @@ ghost use Rattle.language.specs.Reading.{tree_of};
 ghost use Rattle.translation.specs.Translated.{ProgramOf};
 
 mod command;
+mod declaration;
 mod expression;
 mod scope;
 mod translator;

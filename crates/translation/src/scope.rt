@@ -1,6 +1,6 @@
-ghost use Rattle.std.specs.Prelude.{◌≡◌, ◌<◌, length, []};
+ghost use Rattle.std.specs.Prelude.{◌≡◌, ◌<◌, length, [], MatchOption};
 ghost use Rattle.language.specs.Scope.{entry, place_of};
-ghost use Rattle.translation.specs.Held.{visible, Bound, Resolved};
+ghost use Rattle.translation.specs.Held.{visible, Bound, NewestAt, Resolved, Unnamed};
 
 use language::name::{Entry, Place, Role};
 use vocabulary::refusal::{Cause, Refusal};
@@ -10,6 +10,13 @@ use vocabulary::table::Table;
 #[derive(Drop)]
 pub struct Scope {
     pub entries: Table<Entry, 512>,
+}
+
+// Where the newest entry of a name stands, counted from the oldest of all.
+fn newest(entries: &[Entry], name: u8) -> Option<usize>
+    ensures { MatchOption result (Unnamed entries.now name) (NewestAt entries.now name) }
+{
+    entries.iter().rposition(|entry| entry.name == name)
 }
 
 impl Scope {
@@ -38,15 +45,11 @@ impl Scope {
         ensures { result ≡ place_of (visible self.now) name }
     {
         let entries = self.entries.as_slice();
-        for (newer, entry) in entries.iter().rev().enumerate() {
-            if entry.name == name {
-                return Some(Place {
-                    newer: newer as u16,
-                    role: entry.role,
-                });
-            }
-        }
-        None
+        let at = newest(entries, name)?;
+        Some(Place {
+            newer: (entries.len() - 1 - at) as u16,
+            role: entries[at].role,
+        })
     }
 
     // The number of entries newer than a name's, where the name at `node` has the role that is wanted.

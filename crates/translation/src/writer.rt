@@ -12,7 +12,7 @@ pub struct Writer {
     pub words: Code,
 }
 
-// A word of a node that was written before it was known: a jump whose target comes later.
+// A place that is left in the code for a node's jump, until the jump's target is known.
 #[derive(Clone, Copy)]
 pub struct Gap {
     pub at: u16,
@@ -46,7 +46,7 @@ impl Writer {
         self.words.push(Word { instruction, node });
     }
 
-    // Leaves a place for a jump whose target is not known yet.
+    // Leaves the next place for a jump of the node.
     pub fn reserve(&mut self, node: u16) -> Gap
         requires { length (text self.old) < 1537 }
         ensures { Reserved self.old self.new node result }
@@ -56,7 +56,7 @@ impl Writer {
         Gap { at, node }
     }
 
-    // Writes the jump for which a place was left.
+    // Writes the jump for which a place was left, once what it jumps over is written.
     pub fn aim(&mut self, gap: Gap, jump: Instruction)
         requires { gap.at < length (text self.old) }
         ensures { Aimed self.old self.new gap.at (word jump gap.node) }

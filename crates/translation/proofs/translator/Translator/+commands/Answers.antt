@@ -1,5 +1,4 @@
 use Rattle.std.proofs.Common.{◌+◌, ◌<◌, length, sym, refl, ap, ◌∙◌, arith, rules}
-use Rattle.std.proofs.lemmas.Result.{err_from_is_err_and}
 use Rattle.language.specs.Kinds.{kind_number}
 use Rattle.language.specs.Names.{names_c, names_d}
 use Rattle.language.specs.Reading.{tree_c}
@@ -23,7 +22,7 @@ unfolding names_c
 command-returns-in_err-plain_value-in-Output t c =
     let k = at_c c.node-node.ensures (sym c.kind.ensures ∙ ap kind_number c.in-Output.is) c.requires in
     let p = c.in_err-plain_value-in-Output.ensures.is in
-    refused_c (err_from_is_err_and c.from_residual.result c.from_residual.ensures.1) k.0 p.answer p.same p.on
+    refused_c c.from_residual.result c.from_residual.ensures.1 k.0 p.answer p.same p.on
 
 pub command-emit-requires : goal.command-emit-requires
 command-emit-requires t c =
@@ -45,7 +44,7 @@ unfolding names_c
 command-returns-in_err-command-in-Sequence t c =
     let k = at_c c.node-node.ensures (sym c.kind.ensures ∙ ap kind_number c.in-Sequence.is) c.requires in
     let p = c.in_err-command-in-Sequence.ensures.is in
-    refused_c (err_from_is_err_and c.from_residual-in_err-command-in-Sequence.result c.from_residual-in_err-command-in-Sequence.ensures.1) k.0 (first _ p.answer) p.same p.on
+    refused_c c.from_residual-in_err-command-in-Sequence.result c.from_residual-in_err-command-in-Sequence.ensures.1 k.0 (first _ p.answer) p.same p.on
 
 pub command-command-requires-in-Sequence : goal.command-command-requires-in-Sequence
 command-command-requires-in-Sequence t c =
@@ -80,7 +79,7 @@ unfolding names_d
 declaration-returns-in_err-declaration-in-Pair t c =
     let k = at_d c.args.self.now c.node-node.ensures (sym c.kind.ensures ∙ ap kind_number c.in-Pair.is) c.requires.here c.requires.sort in
     let p = c.in_err-declaration-in-Pair.ensures in
-    refused_d (err_from_is_err_and c.from_residual.result c.from_residual.ensures.1) k.0 (first _ p.answer) p.older p.on
+    refused_d c.from_residual.result c.from_residual.ensures.1 k.0 (first _ p.answer) p.older p.on
 
 pub declaration-declaration-requires-in-Pair : goal.declaration-declaration-requires-in-Pair
 declaration-declaration-requires-in-Pair t c =
@@ -103,7 +102,7 @@ unfolding names_c
 conditional-returns-in_err-plain_value t c =
     let k = at_c c.node-node.ensures c.requires.kind c.requires.ready in
     let p = c.in_err-plain_value.ensures.is in
-    refused_c (err_from_is_err_and c.from_residual.result c.from_residual.ensures.1) k.0 (first _ p.answer) p.same p.on
+    refused_c c.from_residual.result c.from_residual.ensures.1 k.0 (first _ p.answer) p.same p.on
 
 pub conditional-reserve-past-requires : goal.conditional-reserve-past-requires
 conditional-reserve-past-requires t c =
@@ -113,12 +112,11 @@ conditional-reserve-past-requires t c =
 pub conditional-command-requires : goal.conditional-command-requires
 conditional-command-requires t c =
     let k = at_c c.node-node.ensures c.requires.kind c.requires.ready in
-    let p = c.in_ok-plain_value.ensures in
-    (
+    let p = c.in_ok-plain_value.ensures in (
       omega (arith, k.1.1.0),
       ready_c c.args.self.now p.is.on c.requires.ready.here k.1.1
-      (omega (arith, c.requires.ready.room, ap size_c k.0, end_plain p, c.reserve-past.ensures.added.end))
-      (omega (arith, c.requires.ready.names, ap size_c k.0, ap (λ s. length s.entries) p.is.same)),
+          (omega (arith, c.requires.ready.room, ap size_c k.0, end_plain p, c.reserve-past.ensures.added.end))
+          (omega (arith, c.requires.ready.names, ap size_c k.0, ap (λ s. length s.entries) p.is.same)),
     )
 
 pub conditional-returns-in_err-command : goal.conditional-returns-in_err-command
@@ -127,7 +125,7 @@ conditional-returns-in_err-command t c =
     let k = at_c c.node-node.ensures c.requires.kind c.requires.ready in
     let p = c.in_ok-plain_value.ensures.is in
     let q = part_c _ p.on (ap visible p.same) refl c.in_err-command.ensures in
-    refused_c (err_from_is_err_and c.from_residual-in_err-command.result c.from_residual-in_err-command.ensures.1) k.0 (second p.answer (first _ q.answer)) (q.same ∙ p.same) (q.on ∙ p.on)
+    refused_c c.from_residual-in_err-command.result c.from_residual-in_err-command.ensures.1 k.0 (second p.answer (first _ q.answer)) (q.same ∙ p.same) (q.on ∙ p.on)
 
 pub conditional-reserve-end-requires : goal.conditional-reserve-end-requires
 conditional-reserve-end-requires t c =
@@ -141,12 +139,11 @@ conditional-command-requires-2 t c =
     let k = at_c c.node-node.ensures c.requires.kind c.requires.ready in
     let p = c.in_ok-plain_value.ensures in
     let q = c.in_ok-command.ensures in
-    let b = ap (λ ns. size_c (tree_c ns c.node-node.result.b)) p.is.on in
-    (
+    let b = ap (λ ns. size_c (tree_c ns c.node-node.result.b)) p.is.on in (
       omega (arith, k.1.2.0),
       ready_c c.args.self.now (q.is.on ∙ p.is.on) c.requires.ready.here k.1.2
-      (omega (arith, c.requires.ready.room, ap size_c k.0, end_plain p, c.reserve-past.ensures.added.end, end_c q, b, c.reserve-end.ensures.added.end, c.aim.ensures.end))
-      (omega (arith, c.requires.ready.names, ap size_c k.0, ap (λ s. length s.entries) (q.is.same ∙ p.is.same))),
+          (omega (arith, c.requires.ready.room, ap size_c k.0, end_plain p, c.reserve-past.ensures.added.end, end_c q, b, c.reserve-end.ensures.added.end, c.aim.ensures.end))
+          (omega (arith, c.requires.ready.names, ap size_c k.0, ap (λ s. length s.entries) (q.is.same ∙ p.is.same))),
     )
 
 pub conditional-returns-in_err-command-2 : goal.conditional-returns-in_err-command-2
@@ -156,7 +153,7 @@ conditional-returns-in_err-command-2 t c =
     let p = c.in_ok-plain_value.ensures.is in
     let q = part_c _ p.on (ap visible p.same) refl c.in_ok-command.ensures in
     let r = part_c _ (q.on ∙ p.on) (ap visible (q.same ∙ p.same)) refl c.in_err-command-2.ensures in
-    refused_c (err_from_is_err_and c.from_residual-in_err-command-2.result c.from_residual-in_err-command-2.ensures.1) k.0 (second p.answer (second q.answer r.answer)) (r.same ∙ q.same ∙ p.same) (r.on ∙ q.on ∙ p.on)
+    refused_c c.from_residual-in_err-command-2.result c.from_residual-in_err-command-2.ensures.1 k.0 (second p.answer (second q.answer r.answer)) (r.same ∙ q.same ∙ p.same) (r.on ∙ q.on ∙ p.on)
 
 pub conditional-returns : goal.conditional-returns
 conditional-returns t c =
@@ -173,7 +170,7 @@ unfolding names_c
 repetition-returns-in_err-plain_value t c =
     let k = at_c c.node-node.ensures c.requires.kind c.requires.ready in
     let p = c.in_err-plain_value.ensures.is in
-    refused_c (err_from_is_err_and c.from_residual.result c.from_residual.ensures.1) k.0 (first _ p.answer) p.same p.on
+    refused_c c.from_residual.result c.from_residual.ensures.1 k.0 (first _ p.answer) p.same p.on
 
 pub repetition-reserve-past-requires : goal.repetition-reserve-past-requires
 repetition-reserve-past-requires t c =
@@ -183,12 +180,11 @@ repetition-reserve-past-requires t c =
 pub repetition-command-requires : goal.repetition-command-requires
 repetition-command-requires t c =
     let k = at_c c.node-node.ensures c.requires.kind c.requires.ready in
-    let p = c.in_ok-plain_value.ensures in
-    (
+    let p = c.in_ok-plain_value.ensures in (
       omega (arith, k.1.1.0),
       ready_c c.args.self.now p.is.on c.requires.ready.here k.1.1
-      (omega (arith, c.requires.ready.room, ap size_c k.0, end_plain p, c.reserve-past.ensures.added.end))
-      (omega (arith, c.requires.ready.names, ap size_c k.0, ap (λ s. length s.entries) p.is.same)),
+          (omega (arith, c.requires.ready.room, ap size_c k.0, end_plain p, c.reserve-past.ensures.added.end))
+          (omega (arith, c.requires.ready.names, ap size_c k.0, ap (λ s. length s.entries) p.is.same)),
     )
 
 pub repetition-returns-in_err-command : goal.repetition-returns-in_err-command
@@ -197,7 +193,7 @@ repetition-returns-in_err-command t c =
     let k = at_c c.node-node.ensures c.requires.kind c.requires.ready in
     let p = c.in_ok-plain_value.ensures.is in
     let q = part_c _ p.on (ap visible p.same) refl c.in_err-command.ensures in
-    refused_c (err_from_is_err_and c.from_residual-in_err-command.result c.from_residual-in_err-command.ensures.1) k.0 (second p.answer q.answer) (q.same ∙ p.same) (q.on ∙ p.on)
+    refused_c c.from_residual-in_err-command.result c.from_residual-in_err-command.ensures.1 k.0 (second p.answer q.answer) (q.same ∙ p.same) (q.on ∙ p.on)
 
 pub repetition-emit-requires : goal.repetition-emit-requires
 repetition-emit-requires t c =
@@ -218,12 +214,11 @@ block-emit-requires t c =
 
 pub block-declaration-requires : goal.block-declaration-requires
 block-declaration-requires t c =
-    let k = at_c c.node-node.ensures c.requires.kind c.requires.ready in
-    (
+    let k = at_c c.node-node.ensures c.requires.kind c.requires.ready in (
       omega (arith, k.1.0.0),
       ready_d c.args.self.now refl c.requires.ready.here k.1.0
-      (omega (arith, c.requires.ready.room, ap size_c k.0, c.emit.ensures.end))
-      (omega (arith, c.requires.ready.names, ap size_c k.0)),
+          (omega (arith, c.requires.ready.room, ap size_c k.0, c.emit.ensures.end))
+          (omega (arith, c.requires.ready.names, ap size_c k.0)),
     )
 
 pub block-returns-in_err-declaration : goal.block-returns-in_err-declaration
@@ -232,17 +227,16 @@ block-returns-in_err-declaration t c =
     let k = at_c c.node-node.ensures c.requires.kind c.requires.ready in
     let p = c.in_err-declaration.ensures in
     let m = c.drop-block.ensures in
-    refused_c (err_from_is_err_and c.from_residual.result c.from_residual.ensures.1) k.0 (first _ p.answer) (restored c.len-was.ensures.value p.older m) (m.on ∙ p.on)
+    refused_c c.from_residual.result c.from_residual.ensures.1 k.0 (first _ p.answer) (restored c.len-was.ensures.value p.older m) (m.on ∙ p.on)
 
 pub block-command-requires : goal.block-command-requires
 block-command-requires t c =
     let k = at_c c.node-node.ensures c.requires.kind c.requires.ready in
-    let p = c.in_ok-declaration.ensures in
-    (
+    let p = c.in_ok-declaration.ensures in (
       omega (arith, k.1.1.0),
       ready_c c.args.self.now p.on c.requires.ready.here k.1.1
-      (omega (arith, c.requires.ready.room, ap size_c k.0, c.emit.ensures.end, end_d p))
-      (omega (arith, c.requires.ready.names, ap size_c k.0, p.declared.1)),
+          (omega (arith, c.requires.ready.room, ap size_c k.0, c.emit.ensures.end, end_d p))
+          (omega (arith, c.requires.ready.names, ap size_c k.0, p.declared.1)),
     )
 
 pub block-returns-in_err-command : goal.block-returns-in_err-command
@@ -252,7 +246,7 @@ block-returns-in_err-command t c =
     let p = c.in_ok-declaration.ensures in
     let q = part_c _ p.on p.declared.0 refl c.in_err-command.ensures in
     let m = c.drop-block-in_err-command.ensures in
-    refused_c (err_from_is_err_and c.from_residual-in_err-command.result c.from_residual-in_err-command.ensures.1) k.0 (second p.answer q.answer) (restored c.len-was.ensures.value (older_trans p.older (older_same q.same)) m) (m.on ∙ q.on ∙ p.on)
+    refused_c c.from_residual-in_err-command.result c.from_residual-in_err-command.ensures.1 k.0 (second p.answer q.answer) (restored c.len-was.ensures.value (older_trans p.older (older_same q.same)) m) (m.on ∙ q.on ∙ p.on)
 
 pub block-emit-requires-2 : goal.block-emit-requires-2
 block-emit-requires-2 t c =
@@ -286,8 +280,8 @@ routine-returns t c =
     let k = at_routine c.args.self.now c.node-node.ensures c.requires.ready.here c.requires.ready.sort c.requires.kind in
     routine_done k (ap (λ i. i + 2) c.here-start.ensures) c.emit.ensures c.reserve-past.ensures c.in_ok-body.ensures c.emit-2.ensures c.here.ensures c.aim.ensures c.bind.ensures
 
-pub body-overflow_cast-node : goal.body-overflow_cast-node
-body-overflow_cast-node t c =
+pub body-overflow_cast-parameter : goal.body-overflow_cast-parameter
+body-overflow_cast-parameter t c =
     let h : c.node-node.result.c < 256 = parameter c.args.self.now c.node-node.ensures c.requires.ready.here c.requires.kind in
     search rules
 
@@ -298,12 +292,11 @@ body-bind-requires t c =
 
 pub body-command-requires : goal.body-command-requires
 body-command-requires t c =
-    let k = at_d c.args.self.now c.node-node.ensures (encloses_procedure c.in-Procedure.is c.requires.kind) c.requires.ready.here c.requires.ready.sort in
-    (
+    let k = at_d c.args.self.now c.node-node.ensures (encloses_procedure c.in-Procedure.is c.requires.kind) c.requires.ready.here c.requires.ready.sort in (
       omega (arith, k.1.0),
       ready_c c.args.self.now refl c.requires.ready.here k.1
-      (omega (arith, c.requires.ready.room, ap size_d k.0))
-      (omega (arith, c.requires.ready.names, ap size_d k.0, c.bind.ensures.more)),
+          (omega (arith, c.requires.ready.room, ap size_d k.0))
+          (omega (arith, c.requires.ready.names, ap size_d k.0, c.bind.ensures.more)),
     )
 
 pub body-returns-in-Procedure : goal.body-returns-in-Procedure

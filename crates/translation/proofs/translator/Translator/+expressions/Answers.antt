@@ -1,17 +1,15 @@
-use Rattle.std.proofs.Common.{sym, refl, ap, ◌∙◌, subst, arith, w32, SFits, rules}
-use Rattle.std.proofs.lemmas.Result.{err_from_is_err_and}
+use Rattle.std.proofs.Common.{sym, refl, ap, ◌∙◌, arith, w32, SFits, rules}
 use Rattle.std.proofs.lemmas.Int.{to_z-of_z}
 use Rattle.vocabulary.specs.declared.node.Node.{Node}
 use Rattle.language.specs.Kinds.{kind_number}
 use Rattle.language.specs.Names.{names_e}
 use Rattle.language.specs.Reading.{tree_e}
-use Rattle.language.specs.Sound.{LowerE}
 use Rattle.language.specs.Tree.{size_e}
 use Rattle.translation.specs.Held.{visible}
 use Rattle.translation.specs.Translated.{nodes}
-use Rattle.translation.proofs.Expressions.{number_done, name_done, plain_done, call_done, operation_done, choice_done, same_call}
+use Rattle.translation.proofs.Expressions.{number_done, name_done, plain_done, operation_done, choice_done}
 use Rattle.translation.proofs.Forms.{at_e, sound_of, numbered_e}
-use Rattle.translation.proofs.Parts.{ready_e, part_e, part_plain, end_e, end_plain, some_e, first, second, refused, refused_e, same_e}
+use Rattle.translation.proofs.Parts.{ready_e, part_e, part_plain, end_e, end_plain, some_e, first, second, refused_e, same_e}
 use Rattle.translation.proofs.translator.Translator.+expressions.Goals as goal
 
 pub plain_value-emit-requires : goal.plain_value-emit-requires
@@ -20,31 +18,9 @@ plain_value-emit-requires t c = omega (arith, c.requires.room, end_e c.in_ok-exp
 pub plain_value-returns : goal.plain_value-returns
 plain_value-returns t c = plain_done (numbered_e _ (sound_of c.args.self.now) _ c.requires.here c.requires.sort) c.in_ok-expression.ensures c.emit.ensures
 
-pub call-returns-in_err-newer : goal.call-returns-in_err-newer
-call-returns-in_err-newer t c =
-    same_call c.node-node.ensures
-    (record { is = refused (err_from_is_err_and c.from_residual.result c.from_residual.ensures.1) (first _ (sym c.in_err-newer.ensures)) refl refl })
-
-pub call-expression-requires : goal.call-expression-requires
-call-expression-requires t c =
-    let s = c.args.self.now in
-    let k : LowerE (nodes s) c.args.n c.node-node.result.a = subst (λ (d : Node). LowerE (nodes s) c.args.n d.a) (sym c.node-node.ensures) c.requires.argument in
-    (omega (arith, k.0), ready_e s refl c.requires.here k (omega (arith, c.requires.room, ap (λ (d : Node). size_e (tree_e (nodes s) d.a)) c.node-node.ensures)))
-
-pub call-returns-in_err-expression : goal.call-returns-in_err-expression
-call-returns-in_err-expression t c =
-    let q = c.in_err-expression.ensures.is in
-    same_call c.node-node.ensures
-    (record { is = refused (err_from_is_err_and c.from_residual-in_err-expression.result c.from_residual-in_err-expression.ensures.1) (second (sym c.in_ok-newer.ensures.0) q.answer) q.same q.on })
-
 pub call-emit-requires : goal.call-emit-requires
 call-emit-requires t c =
     omega (arith, c.requires.room, end_e c.in_ok-expression.ensures, ap (λ (d : Node). size_e (tree_e (nodes c.args.self.now) d.a)) c.node-node.ensures)
-
-pub call-returns : goal.call-returns
-call-returns t c =
-    same_call c.node-node.ensures
-    (call_done c.in_ok-newer.ensures c.in_ok-expression.ensures c.emit.ensures)
 
 pub choice-plain_value-requires : goal.choice-plain_value-requires
 choice-plain_value-requires t c =
@@ -56,7 +32,7 @@ unfolding names_e
 choice-returns-in_err-plain_value t c =
     let k = at_e c.node-node.ensures c.requires.kind c.requires.ready in
     let p = c.in_err-plain_value.ensures.is in
-    refused_e (err_from_is_err_and c.from_residual.result c.from_residual.ensures.1) k.0 (first _ p.answer) p.same p.on
+    refused_e c.from_residual.result c.from_residual.ensures.1 k.0 (first _ p.answer) p.same p.on
 
 pub choice-reserve-past-requires : goal.choice-reserve-past-requires
 choice-reserve-past-requires t c =
@@ -75,7 +51,7 @@ choice-returns-in_err-expression t c =
     let k = at_e c.node-node.ensures c.requires.kind c.requires.ready in
     let p = c.in_ok-plain_value.ensures.is in
     let q = part_e _ p.on (ap visible p.same) refl c.in_err-expression.ensures in
-    refused_e (err_from_is_err_and c.from_residual-in_err-expression.result c.from_residual-in_err-expression.ensures.1) k.0 (second p.answer (first _ q.answer)) (q.same ∙ p.same) (q.on ∙ p.on)
+    refused_e c.from_residual-in_err-expression.result c.from_residual-in_err-expression.ensures.1 k.0 (second p.answer (first _ q.answer)) (q.same ∙ p.same) (q.on ∙ p.on)
 
 pub choice-reserve-end-requires : goal.choice-reserve-end-requires
 choice-reserve-end-requires t c =
@@ -100,7 +76,7 @@ choice-returns-in_err-expression-2 t c =
     let p = c.in_ok-plain_value.ensures.is in
     let q = part_e _ p.on (ap visible p.same) refl c.in_ok-expression.ensures in
     let r = part_e _ (q.on ∙ p.on) (ap visible (q.same ∙ p.same)) refl c.in_err-expression-2.ensures in
-    refused_e (err_from_is_err_and c.from_residual-in_err-expression-2.result c.from_residual-in_err-expression-2.ensures.1) k.0 (second p.answer (second q.answer r.answer)) (r.same ∙ q.same ∙ p.same) (r.on ∙ q.on ∙ p.on)
+    refused_e c.from_residual-in_err-expression-2.result c.from_residual-in_err-expression-2.ensures.1 k.0 (second p.answer (second q.answer r.answer)) (r.same ∙ q.same ∙ p.same) (r.on ∙ q.on ∙ p.on)
 
 pub choice-returns : goal.choice-returns
 choice-returns t c =
@@ -141,7 +117,7 @@ pub expression-returns-in_err-newer-in-Name : goal.expression-returns-in_err-new
 unfolding names_e
 expression-returns-in_err-newer-in-Name t c =
     let k = at_e c.node-node.ensures (sym c.kind.ensures ∙ ap kind_number c.in-Name.is) c.requires in
-    refused_e (err_from_is_err_and c.from_residual.result c.from_residual.ensures.1) k.0 (sym c.in_err-newer-in-Name.ensures) refl refl
+    refused_e c.from_residual.result c.from_residual.ensures.1 k.0 (sym c.in_err-newer-in-Name.ensures) refl refl
 
 pub expression-returns-in_ok-newer-in-Name : goal.expression-returns-in_ok-newer-in-Name
 expression-returns-in_ok-newer-in-Name t c =
@@ -158,7 +134,7 @@ unfolding names_e
 expression-returns-in_err-plain_value-in-Operation t c =
     let k = at_e c.node-node.ensures (sym c.kind.ensures ∙ ap kind_number c.in-Operation.is) c.requires in
     let p = c.in_err-plain_value-in-Operation.ensures.is in
-    refused_e (err_from_is_err_and c.from_residual-in_err-plain_value-in-Operation.result c.from_residual-in_err-plain_value-in-Operation.ensures.1) k.0 (first _ p.answer) p.same p.on
+    refused_e c.from_residual-in_err-plain_value-in-Operation.result c.from_residual-in_err-plain_value-in-Operation.ensures.1 k.0 (first _ p.answer) p.same p.on
 
 pub expression-plain_value-requires-in-Operation : goal.expression-plain_value-requires-in-Operation
 expression-plain_value-requires-in-Operation t c =
@@ -172,7 +148,7 @@ expression-returns-in_err-plain_value-in-Operation-2 t c =
     let k = at_e c.node-node.ensures (sym c.kind.ensures ∙ ap kind_number c.in-Operation.is) c.requires in
     let p = c.in_ok-plain_value-in-Operation.ensures.is in
     let q = part_plain _ p.on (ap visible p.same) refl c.in_err-plain_value-in-Operation-2.ensures in
-    refused_e (err_from_is_err_and c.from_residual-in_err-plain_value-in-Operation-2.result c.from_residual-in_err-plain_value-in-Operation-2.ensures.1) k.0 (second p.answer q.answer) (q.same ∙ p.same) (q.on ∙ p.on)
+    refused_e c.from_residual-in_err-plain_value-in-Operation-2.result c.from_residual-in_err-plain_value-in-Operation-2.ensures.1 k.0 (second p.answer q.answer) (q.same ∙ p.same) (q.on ∙ p.on)
 
 pub expression-emit-requires-in-Operation : goal.expression-emit-requires-in-Operation
 expression-emit-requires-in-Operation t c =

@@ -1,5 +1,4 @@
 use Rattle.std.proofs.Common.{refl, ap, ◌∙◌, arith}
-use Rattle.std.proofs.lemmas.Result.{err_from_is_err_and}
 use Rattle.language.specs.Names.{names_c}
 use Rattle.language.specs.Reading.{tree_e}
 use Rattle.language.specs.Tree.{size_e, size_c}
@@ -19,7 +18,7 @@ unfolding names_c
 returns-in_err-expression c =
     let k = at_c c.node-node.ensures c.requires.kind c.requires.ready in
     let p = c.in_err-expression.ensures.is in
-    refused_c (err_from_is_err_and c.from_residual.result c.from_residual.ensures.1) k.0 (first _ p.answer) p.same p.on
+    refused_c c.from_residual.result c.from_residual.ensures.1 k.0 (first _ p.answer) p.same p.on
 
 pub emit-requires : goal.emit-requires
 emit-requires c =
@@ -38,7 +37,7 @@ returns-in_err-plain_value c =
     let k = at_c c.node-node.ensures c.requires.kind c.requires.ready in
     let p = c.in_ok-expression.ensures.is in
     let q = part_plain _ p.on (ap visible p.same) refl c.in_err-plain_value.ensures in
-    refused_c (err_from_is_err_and c.from_residual-in_err-plain_value.result c.from_residual-in_err-plain_value.ensures.1) k.0 (second p.answer q.answer) (q.same ∙ p.same) (q.on ∙ p.on)
+    refused_c c.from_residual-in_err-plain_value.result c.from_residual-in_err-plain_value.ensures.1 k.0 (second p.answer q.answer) (q.same ∙ p.same) (q.on ∙ p.on)
 
 pub emit-requires-2 : goal.emit-requires-2
 emit-requires-2 c =

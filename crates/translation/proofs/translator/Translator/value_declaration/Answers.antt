@@ -1,9 +1,8 @@
 use Rattle.std.proofs.Common.{length, refl, sym, ap, ◌∙◌, arith}
-use Rattle.std.proofs.lemmas.Result.{err_from_is_err_and}
 use Rattle.translation.proofs.Declarations.{at_value, value_done}
 use Rattle.translation.proofs.Parts.{ready_e, end_plain, refused_d}
 use Rattle.translation.proofs.Scopes.{older_same}
-use Rattle.translation.proofs.translator.Translator.value.Goals as goal
+use Rattle.translation.proofs.translator.Translator.value_declaration.Goals as goal
 
 pub plain_value-requires : goal.plain_value-requires
 plain_value-requires c =
@@ -14,7 +13,7 @@ pub returns-in_err-plain_value : goal.returns-in_err-plain_value
 returns-in_err-plain_value c =
     let k = at_value c.args.self.now c.node-node.ensures c.requires.ready.here c.requires.ready.sort c.requires.kind in
     let p = c.in_err-plain_value.ensures.is in
-    refused_d (err_from_is_err_and c.from_residual.result c.from_residual.ensures.1) refl (p.answer ∙ sym (k.0.names _)) (older_same p.same) p.on
+    refused_d c.from_residual.result c.from_residual.ensures.1 refl (p.answer ∙ sym (k.0.names _)) (older_same p.same) p.on
 
 pub emit-requires : goal.emit-requires
 emit-requires c =
