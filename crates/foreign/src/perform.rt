@@ -8,14 +8,10 @@ ghost use Rattle.foreign.specs.Calls.{Granted, Performs};
 
 use ports::feed::Feed;
 use ports::strip::Strip;
+use sequencer::fuel::{RUN_FUEL, TAKE_FUEL};
 use sequencer::report::Report;
 use sequencer::state::Sequencer;
 use vocabulary::refusal::{Cause, Refusal};
-
-// The most fuel of one run, and of a take.
-const RUN_FUEL: u32 = 1000000;
-
-const TAKE_FUEL: u32 = 1000000000;
 
 // Grants the fuel in runs, and what is over in a last one. A run is refused only when the take has ended, and then no fuel
 // moves it.

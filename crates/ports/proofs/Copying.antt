@@ -15,9 +15,6 @@ use Rattle.ports.specs.Feeds.{Took}
 use Rattle.ports.specs.Strips.{Put}
 
 module _ (price : Plain → ℕ) (n : ℕ) (items : List Item) (values : List Plain) (space : ℕ) where
-  pub copied_none : n ≡ 0 → copied price n items values space ≡ outcome items values space (Ok tt)
-  copied_none e = ap (λ k. copied price k items values space) e
-
   module _ (some : 0 < n) (later : List Item) (taken : Option Item) (took : Took items later taken) where
     m : n ≡ suc (n - 1)
     m = omega arith

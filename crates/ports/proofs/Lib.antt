@@ -1,4 +1,3 @@
-pub mod Traced
 pub mod Ramped
 pub mod Keeping
 pub mod Lending

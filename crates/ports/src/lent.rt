@@ -31,13 +31,14 @@ pub trait Element: Copy {
         ensures { Wrote price written said value free.old free.new result };
 }
 
-// A strip that fills the caller's memory; the first `used` elements are filled.
+// A strip that fills the caller's memory; the first `used` elements are filled. The memory is held whole beside that count,
+// since what a strip keeps is said of all of it.
 #[derive(Drop)]
 pub struct LentStrip<'a, T: Element> {
     memory: &'a mut [T],
     used: usize,
     ghost within: { used ≤ length memory.now },
-    ghost whole: { T.written (T.said (take used memory.now)) ≡ take used memory.now } by { Coded-set (coded_list T.code) (T.written (T.said (take used memory.now))) (take used memory.now) },
+    ghost whole: { T.written (T.said (take used memory.now)) ≡ take used memory.now } by { Coded-set (coded_list T.code) _ _ },
 }
 
 // Copies a line to the start of `free`, where there is room, and answers its length.

@@ -19,13 +19,8 @@ impl Feed for Once {
     ghost lawful = { λ once. item_lawful once.reading };
 
     fn take(&mut self) -> Option<Item> {
-        match self.reading {
-            Some(reading) => {
-                self.reading = None;
-                Some(Item::Reading(reading))
-            }
-            None => None,
-        }
+        let reading = self.reading.take()?;
+        Some(Item::Reading(reading))
     }
 }
 
@@ -50,12 +45,10 @@ impl Strip for Slot {
     ghost goes = { λ s t u h k. tt };
 
     fn put(&mut self, value: Plain) -> Result<(), StripFull> {
-        match self.value {
-            Some(_) => Err(StripFull),
-            None => {
-                self.value = Some(value);
-                Ok(())
-            }
+        if self.value.is_some() {
+            return Err(StripFull);
         }
+        self.value = Some(value);
+        Ok(())
     }
 }

@@ -1,6 +1,7 @@
 use ports::copy::{Stop, copy_into};
 use ports::feed::Feed;
 use ports::ramp::Ramp;
+use ports::records::{OutRecord, RecordStrip};
 use ports::strip::{Strip, StripFull};
 use ports::text::TextStrip;
 use ports::trace::{Record, Trace};
@@ -36,6 +37,21 @@ fn text_of_each_value(rt: HostRuntime) {
     writes(&rt, Plain::Number(-2147483648), b"-2147483648\n");
     writes(&rt, Plain::Truth(true), b"true\n");
     writes(&rt, Plain::Truth(false), b"false\n");
+}
+
+// Two records hold two values; the third value finds no room, and the memory behind the strip stays.
+#[test]
+fn records_of_each_value(rt: HostRuntime) {
+    let blank = OutRecord { sort: 9, number: 9 };
+    let mut memory = [blank, blank, blank];
+    let mut strip = RecordStrip::new(&mut memory[0..2]);
+    assert_eq!(rt; strip.put(Plain::Number(-7)), Ok(()));
+    assert_eq!(rt; strip.put(Plain::Truth(true)), Ok(()));
+    assert_eq!(rt; strip.put(Plain::Truth(false)), Err(StripFull));
+    assert_eq!(rt; strip.used(), 2);
+    for (filled, sort, number) in [(memory[0], 0, -7), (memory[1], 1, 1), (memory[2], 9, 9)] {
+        assert_eq!(rt; (filled.sort, filled.number), (sort, number));
+    }
 }
 
 // What was recorded at one moment, as a trace has it.

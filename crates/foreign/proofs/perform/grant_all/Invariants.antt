@@ -12,5 +12,5 @@ invariant-loop-run g l =
     let s = g.S.Strip in
     Granted (rules s.price) (l._run * 1000000) (model l.initial.sequencer) (model l.sequencer)
     (between f s l.initial.feed l.initial.strip) (between f s l.feed l.strip)
-    × (l.sequencer.granted ≤ l.initial.sequencer.granted + l._run * 1000000)
+    × ((model l.sequencer).granted ≤ (model l.initial.sequencer).granted + l._run * 1000000)
     × s.keeps l.initial.strip l.strip

@@ -6,29 +6,23 @@ use Rattle.ports.specs.declared.copy.Stop.TheVariants.{Empty, Full}
 use Rattle.ports.proofs.Copying.{copied_empty, copied_fault, copied_full, copied_done, was_ok, was_err}
 use Rattle.ports.proofs.copy.copy.Goals as goal
 
-pub returns-in_err-fault : goal.returns-in_err-fault
-returns-in_err-fault g c =
+pub returns-in_err-fault-clause-copied : goal.returns-in_err-fault-clause-copied
+returns-in_err-fault-clause-copied g c =
     let f = g.F.Feed in
     let s = g.S.Strip in
     let l = c.loop-done in
     let p = err_from_is_err_and c.from_residual.result c.from_residual.ensures.1 in
     let none : c.take.result ≡ None = grind arith in
     let stop : c.from_residual.result ≡ Err Empty = grind arith in
-    record {
-      copied = copied_empty s.price (c.args.limit - l._done) (f.waiting l.feed) (s.held l.strip) (s.space l.strip) (omega arith) (f.waiting c.take.new.self) c.take.result c.take.ensures _ none stop ∙ l.invariant.0;
-      kept = l.invariant.1;
-    }
+    copied_empty s.price (c.args.limit - l._done) (f.waiting l.feed) (s.held l.strip) (s.space l.strip) (omega arith) (f.waiting c.take.new.self) c.take.result c.take.ensures _ none stop ∙ l.invariant.0
 
-pub returns-in-Fault : goal.returns-in-Fault
-returns-in-Fault g c =
+pub returns-in-Fault-clause-copied : goal.returns-in-Fault-clause-copied
+returns-in-Fault-clause-copied g c =
     let f = g.F.Feed in
     let s = g.S.Strip in
     let l = c.loop-done in
     let some : c.take.result ≡ Some (Fault c.in-Fault.fault) = grind arith in
-    record {
-      copied = copied_fault s.price (c.args.limit - l._done) (f.waiting l.feed) (s.held l.strip) (s.space l.strip) (omega arith) (f.waiting c.take.new.self) c.take.result c.take.ensures (Err c.into.result) c.in-Fault.fault some (ap Err c.into.ensures) ∙ l.invariant.0;
-      kept = l.invariant.1;
-    }
+    copied_fault s.price (c.args.limit - l._done) (f.waiting l.feed) (s.held l.strip) (s.space l.strip) (omega arith) (f.waiting c.take.new.self) c.take.result c.take.ensures (Err c.into.result) c.in-Fault.fault some (ap Err c.into.ensures) ∙ l.invariant.0
 
 pub returns-in_err-map_err-in-Reading : goal.returns-in_err-map_err-in-Reading
 returns-in_err-map_err-in-Reading g c =
