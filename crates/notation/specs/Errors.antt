@@ -1,5 +1,5 @@
 -- Which error a line gets that cannot be read.
-use Rattle.std.specs.Prelude.{◌≡◌, ℕ, zero, suc, ◌+◌, ◌⊎◌, List, drop, codes, ◌≢◌}
+use Rattle.std.specs.Prelude.{◌≡◌, ℕ, zero, suc, ◌+◌, ◌⊎◌, List, [], drop, codes, ◌≢◌}
 use Rattle.notation.specs.declared.error.ReadError.{ReadError}
 use Rattle.notation.specs.declared.error.ReadError.TheVariants.{Memory, TooManyWords, UnknownFeed, UnknownLine, UnknownStrip, Word}
 use Rattle.notation.specs.declared.error.Wanted.{Wanted}
@@ -14,12 +14,16 @@ use Rattle.notation.specs.Words.{word, behind}
 abbrev pub Misses : Wanted → (WordError → Type 0) → ReadError → Type 0
 Misses wanted wrong e = (w : WordError) × (e ≡ Word wanted w) × wrong w
 
+-- a word stands where none may
+abbrev pub TooMany : List ℕ → ReadError → Type 0
+TooMany rest e = (e ≡ TooManyWords) × (word rest ≢ [])
+
 -- the only word of the rest is a number, or bytes
 abbrev pub NumberError : Wanted → ℕ → List ℕ → ReadError → Type 0
-NumberError wanted most rest e = (e ≡ TooManyWords) ⊎ Misses wanted (DigitsError (word rest) 0 most) e
+NumberError wanted most rest e = TooMany (behind rest) e ⊎ Misses wanted (DigitsError (word rest) 0 most) e
 
 abbrev pub BytesError : Wanted → List ℕ → ReadError → Type 0
-BytesError wanted rest e = (e ≡ Memory) ⊎ (e ≡ TooManyWords) ⊎ Misses wanted (HexError (word rest)) e
+BytesError wanted rest e = (e ≡ Memory) ⊎ TooMany (behind rest) e ⊎ Misses wanted (HexError (word rest)) e
 
 -- three numbers
 abbrev pub RampError : List ℕ → ReadError → Type 0
@@ -54,6 +58,6 @@ abbrev pub LineError : List ℕ → List ℕ → ReadError → Type 0
 LineError verb rest e =
     ((verb ≡ codes "feed") × FeedError rest e) ⊎ ((verb ≡ codes "strip") × StripError rest e)
     ⊎ ((verb ≡ codes "load") × BytesError Table rest e) ⊎ ((verb ≡ codes "open") × BytesError Sheet rest e)
-    ⊎ ((verb ≡ codes "rewind") × (e ≡ TooManyWords)) ⊎ ((verb ≡ codes "run") × NumberError Fuel 4294967295 rest e)
-    ⊎ ((verb ≡ codes "report") × (e ≡ TooManyWords))
+    ⊎ ((verb ≡ codes "rewind") × TooMany rest e) ⊎ ((verb ≡ codes "run") × NumberError Fuel 4294967295 rest e)
+    ⊎ ((verb ≡ codes "report") × TooMany rest e)
     ⊎ ((e ≡ UnknownLine) × (verb ≢ codes "feed") × (verb ≢ codes "strip") × (verb ≢ codes "load") × (verb ≢ codes "open") × (verb ≢ codes "rewind") × (verb ≢ codes "run") × (verb ≢ codes "report"))

@@ -1,7 +1,6 @@
 // Reading what stands behind the first words of a line.
-ghost use Rattle.std.specs.Prelude.{◌≡◌, [], ◌∷◌, codes, IfErr, MatchResult};
-ghost use Rattle.notation.specs.declared.error.ReadError.TheVariants.{TooManyWords};
-ghost use Rattle.notation.specs.Errors.{BytesError, FeedError, LineError, NumberError, RampError, StripError};
+ghost use Rattle.std.specs.Prelude.{[], ◌∷◌, codes, IfErr, MatchResult};
+ghost use Rattle.notation.specs.Errors.{BytesError, FeedError, LineError, NumberError, RampError, StripError, TooMany};
 ghost use Rattle.notation.specs.Lines.{ReadsBehind, ReadsBytes, ReadsNumber, spoken, spoken_feed, spoken_strip};
 ghost use Rattle.notation.specs.Words.{Words};
 
@@ -16,7 +15,7 @@ use std::alloc::Global;
 // No word is left.
 fn end_of_line(rest: &[u8]) -> Result<(), ReadError>
     ensures end { MatchResult result (λ _. Words rest.now []) (λ _. Words rest.now [] → ⊥) }
-    ensures fault { IfErr result (λ e. e ≡ TooManyWords) }
+    ensures fault { IfErr result (TooMany rest.now) }
 {
     let (word, _) = next_word(rest);
     if word.is_empty() {

@@ -1,8 +1,7 @@
 use Rattle.std.proofs.Common.{inl, inr, ◌≡◌, rules, vec_items, codes, arith}
 use Rattle.std.proofs.lemmas.Slice.Eq.{text_from_reads}
 use Rattle.notation.specs.Lines.{loads, opens, rewinds, runs, reports, spoken, spoken_call, spoken_feed, spoken_strip}
-use Rattle.notation.specs.declared.error.ReadError.TheVariants.{TooManyWords}
-use Rattle.notation.specs.Errors.{FeedError, LineError}
+use Rattle.notation.specs.Errors.{FeedError, LineError, TooMany}
 use Rattle.notation.proofs.Behind.{mapped, mapped_error, load_read, open_read, rewind_read, run_read, report_read, at_verb, line-unknown}
 use Rattle.notation.proofs.reading.read_behind.Goals as goal
 
@@ -56,9 +55,9 @@ returns-in-feed-clause-fault c =
 pub returns-in-rewind-clause-fault : goal.returns-in-rewind-clause-fault
 returns-in-rewind-clause-fault c =
     let e : c.args.verb.now ≡ codes "rewind" = text_from_reads c.args.verb.now (codes "rewind") (omega arith) (search rules) in
-    mapped_error _ c.end_of_line.result c.map-in-rewind.result c.map-in-rewind.ensures.cases (λ x. x ≡ TooManyWords) (LineError c.args.verb.now c.args.rest.now) (λ x f. inr (inr (inr (inr (inl (e, f)))))) c.end_of_line.ensures.fault
+    mapped_error _ c.end_of_line.result c.map-in-rewind.result c.map-in-rewind.ensures.cases (TooMany c.args.rest.now) (LineError c.args.verb.now c.args.rest.now) (λ x f. inr (inr (inr (inr (inl (e, f)))))) c.end_of_line.ensures.fault
 
 pub returns-in-report-clause-fault : goal.returns-in-report-clause-fault
 returns-in-report-clause-fault c =
     let e : c.args.verb.now ≡ codes "report" = text_from_reads c.args.verb.now (codes "report") (omega arith) (search rules) in
-    mapped_error _ c.end_of_line-in-report.result c.map-in-report.result c.map-in-report.ensures.cases (λ x. x ≡ TooManyWords) (LineError c.args.verb.now c.args.rest.now) (λ x f. inr (inr (inr (inr (inr (inr (inl (e, f)))))))) c.end_of_line-in-report.ensures.fault
+    mapped_error _ c.end_of_line-in-report.result c.map-in-report.result c.map-in-report.ensures.cases (TooMany c.args.rest.now) (LineError c.args.verb.now c.args.rest.now) (λ x f. inr (inr (inr (inr (inr (inr (inl (e, f)))))))) c.end_of_line-in-report.ensures.fault
