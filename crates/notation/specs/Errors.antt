@@ -1,5 +1,5 @@
 -- Which error a line gets that cannot be read.
-use Rattle.std.specs.Prelude.{◌≡◌, ℕ, zero, suc, ◌+◌, ◌⊎◌, List, [], drop, codes, ◌≢◌}
+use Rattle.std.specs.Prelude.{◌≡◌, ℕ, zero, suc, ◌+◌, ◌⊎◌, List, [], ◌++◌, codes, ◌≢◌}
 use Rattle.notation.specs.declared.error.ReadError.{ReadError}
 use Rattle.notation.specs.declared.error.ReadError.TheVariants.{Memory, TooManyWords, UnknownFeed, UnknownLine, UnknownStrip, Word}
 use Rattle.notation.specs.declared.error.Wanted.{Wanted}
@@ -7,7 +7,7 @@ use Rattle.notation.specs.declared.error.Wanted.TheVariants.{Table, Sheet, Fuel,
 use Rattle.notation.specs.declared.error.WordError.{WordError}
 use Rattle.notation.specs.declared.error.WordError.TheVariants.{OutOfRange}
 use Rattle.notation.specs.Hex.{HexError}
-use Rattle.notation.specs.Numbers.{DigitsError, SignedError}
+use Rattle.notation.specs.Numbers.{DigitsError, SignedError, Unsigned}
 use Rattle.notation.specs.Words.{word, behind}
 
 -- the error names what was wanted, and what `wrong` says is wrong with its word
@@ -31,7 +31,9 @@ RampError rest e = Misses Start (SignedError (word rest)) e ⊎ Misses Step (Sig
 
 -- an item with this number
 abbrev pub ItemError : List ℕ → ℕ → ReadError → Type 0
-ItemError w number e = Misses (Reading number) (SignedError w) e ⊎ Misses (FaultCode number) (λ x. (x ≡ OutOfRange) ⊎ DigitsError (drop 6 w) 6 255 x) e
+ItemError w number e =
+    (((digits : List ℕ) → w ≢ codes "fault:" ++ digits) × Misses (Reading number) (SignedError w) e)
+    ⊎ ((digits : List ℕ) × (w ≡ codes "fault:" ++ digits) × Misses (FaultCode number) (λ x. ((x ≡ OutOfRange) × Unsigned digits 0) ⊎ DigitsError digits 6 255 x) e)
 
 -- what is left of a line behind so many words
 abbrev pub behind_words : ℕ → List ℕ → List ℕ
