@@ -1,5 +1,5 @@
 -- What stands behind the first words of a line: where its reader refuses it, nothing stands there.
-use Rattle.std.proofs.Common.{◌≡◌, ℕ, ◌^◌, ◌<◌, ◌≤◌, List, [], ◌∷◌, map, length, drop, ℤ, Ok, Err, codes, Option, Result, MatchResult, IsOkAnd, ◌≢◌, Vec, Global, vec_items, sym, refl, ap, ◌∙◌, subst, arith, w32, SFits}
+use Rattle.std.proofs.Common.{◌≡◌, ℕ, ◌^◌, ◌<◌, ◌≤◌, List, [], ◌∷◌, map, length, drop, ℤ, Ok, Err, codes, Option, Result, MatchResult, IsOkAnd, IfErr, ◌≢◌, Vec, Global, vec_items, sym, refl, ap, ◌∙◌, subst, arith, w32, SFits}
 use Rattle.std.specs.Str.Parse.{digits_value}
 use Rattle.std.specs.List.{AllByRecursion}
 use Rattle.vocabulary.specs.declared.item.Item.{Item}
@@ -151,6 +151,12 @@ module _ {P Q : Type 0} (says : P → Spoken) (also : Q → Spoken) (first : Lis
   mapped (Ok x) (Ok y) m same p = (p.0, p.1, subst (Say (first p.0)) (sym (same x y m)) p.2)
   mapped (Ok x) (Err e) m same p = absurd m
   mapped (Err e) s m same p = subst (ReadsBehind also first rest) (sym m) p
+
+-- its error is that of what it is made of
+pub mapped_error : {P Q : Type 0} (post : P → Q → Type 0) (r : Result P ReadError) (s : Result Q ReadError) → MatchResult r (λ x. IsOkAnd s (post x)) (λ e. s ≡ Err e) → (wrong also : ReadError → Type 0) → ((e : ReadError) → wrong e → also e) → IfErr r wrong → IfErr s also
+mapped_error post (Ok x) (Ok y) m wrong also same w = tt
+mapped_error post (Ok x) (Err e) m wrong also same w = absurd m
+mapped_error post (Err e) s m wrong also same w = subst (λ t. IfErr t also) (sym m) (same e w)
 
 pub at_verb : (verb v rest : List ℕ) (r : Result Line ReadError) → verb ≡ v → ReadsBehind spoken (λ ws. v ∷ ws) rest r → ReadsBehind spoken (λ ws. verb ∷ ws) rest r
 at_verb verb v rest r e p = subst (λ v. ReadsBehind spoken (λ ws. v ∷ ws) rest r) (sym e) p

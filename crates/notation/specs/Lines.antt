@@ -8,9 +8,7 @@ use Rattle.vocabulary.specs.declared.item.Item.{Item}
 use Rattle.vocabulary.specs.declared.item.Item.TheVariants.{Reading, Fault}
 use Rattle.ports.specs.Traces.{items_of}
 use Rattle.notation.specs.declared.error.ReadError.{ReadError}
-use Rattle.notation.specs.declared.error.ReadError.TheVariants.{Memory, Word}
-use Rattle.notation.specs.declared.error.Wanted.{Wanted}
-use Rattle.notation.specs.declared.error.WordError.{WordError}
+use Rattle.notation.specs.declared.error.ReadError.TheVariants.{Memory}
 use Rattle.notation.specs.declared.plan.CallPlan.{CallPlan}
 use Rattle.notation.specs.declared.plan.CallPlan.TheVariants.{Load, Open, Rewind, Run, Report}
 use Rattle.notation.specs.declared.plan.FeedPlan.{FeedPlan}
@@ -156,7 +154,3 @@ ReadsBytes rest r =
 abbrev pub ReadsNumber : ℕ → List ℕ → Result ℕ ReadError → Type 0
 ReadsNumber most rest r =
     MatchResult r (λ n. (n ≤ most) × ((w : List ℕ) × Words rest (w ∷ []) × Unsigned w n)) (λ _. (n : ℕ) → n ≤ most → (w : List ℕ) → Words rest (w ∷ []) → Unsigned w n → ⊥)
-
--- the error names what was wanted, and what `wrong` says is wrong with its word
-abbrev pub Misses : Wanted → (WordError → Type 0) → ReadError → Type 0
-Misses wanted wrong e = (w : WordError) × (e ≡ Word wanted w) × wrong w

@@ -2,7 +2,7 @@
 ghost use Rattle.std.specs.Prelude.{◌≡◌, ℕ, ◌^◌, ◌<◌, ◌⊎◌, List, [], ◌∷◌, IfOk, IfErr, string_bytes, MatchOption, MatchResult, ◌≢◌, Some};
 ghost use Rattle.notation.specs.declared.error.ReadError.TheVariants.{Memory};
 ghost use Rattle.notation.specs.declared.error.WordError.TheVariants.{NoHexDigit};
-ghost use Rattle.notation.specs.Lines.{Misses};
+ghost use Rattle.notation.specs.Errors.{Misses};
 ghost use Rattle.notation.specs.Hex.{Bytes, FirstNoDigit, hex_digit, hex_digits, hex_text, HexError};
 
 use crate::error::{ReadError, Shown, Wanted, WordError};

@@ -1,7 +1,8 @@
 // A line, read and written.
-ghost use Rattle.std.specs.Prelude.{◌≡◌, ◌↔◌, IfOk, string_bytes, [], None};
+ghost use Rattle.std.specs.Prelude.{◌≡◌, ◌↔◌, IfErr, IfOk, string_bytes, [], None};
+ghost use Rattle.notation.specs.Errors.{LineError};
 ghost use Rattle.notation.specs.Lines.{Reads, line_text, spoken};
-ghost use Rattle.notation.specs.Words.{Words};
+ghost use Rattle.notation.specs.Words.{Words, word, behind};
 
 use crate::error::ReadError;
 use crate::plan::Line;
@@ -12,6 +13,7 @@ use std::alloc::{AllocError, Global};
 // What a line plans; a line without words plans nothing.
 pub fn read_line(heap: Global, line: &[u8]) -> Result<Option<Line>, ReadError>
     ensures said { Reads line.now result }
+    ensures fault { IfErr result (LineError (word line.now) (behind line.now)) }
     ensures nothing { result ≡ Ok None ↔ Words line.now [] }
 {
     let (verb, rest) = next_word(line);

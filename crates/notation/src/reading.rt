@@ -1,5 +1,6 @@
 // Reading what stands behind the first words of a line.
-ghost use Rattle.std.specs.Prelude.{[], ◌∷◌, codes, MatchResult};
+ghost use Rattle.std.specs.Prelude.{[], ◌∷◌, codes, IfErr, MatchResult};
+ghost use Rattle.notation.specs.Errors.{BytesError, FeedError, LineError, NumberError, RampError, StripError, TooMany};
 ghost use Rattle.notation.specs.Lines.{ReadsBehind, ReadsBytes, ReadsNumber, spoken, spoken_feed, spoken_strip};
 ghost use Rattle.notation.specs.Words.{Words};
 
@@ -13,7 +14,8 @@ use std::alloc::Global;
 
 // No word is left.
 fn end_of_line(rest: &[u8]) -> Result<(), ReadError>
-    ensures { MatchResult result (λ _. Words rest.now []) (λ _. Words rest.now [] → ⊥) }
+    ensures end { MatchResult result (λ _. Words rest.now []) (λ _. Words rest.now [] → ⊥) }
+    ensures fault { IfErr result (TooMany rest.now) }
 {
     let (word, _) = next_word(rest);
     if word.is_empty() {
@@ -25,7 +27,8 @@ fn end_of_line(rest: &[u8]) -> Result<(), ReadError>
 
 // The bytes that the only word gives.
 fn last_bytes(heap: Global, rest: &[u8], wanted: Wanted) -> Result<Vec<u8>, ReadError>
-    ensures { ReadsBytes rest.now result }
+    ensures bytes { ReadsBytes rest.now result }
+    ensures fault { IfErr result (BytesError wanted rest.now) }
 {
     let (word, more) = next_word(rest);
     let bytes = read_hex(heap, word, wanted)?;
@@ -35,7 +38,8 @@ fn last_bytes(heap: Global, rest: &[u8], wanted: Wanted) -> Result<Vec<u8>, Read
 
 // The number that the only word stands for.
 fn last_number(rest: &[u8], wanted: Wanted, most: u64) -> Result<u64, ReadError>
-    ensures { ReadsNumber most rest.now result }
+    ensures number { ReadsNumber most rest.now result }
+    ensures fault { IfErr result (NumberError wanted most rest.now) }
 {
     let (word, more) = next_word(rest);
     let number = read_digits(word, 0, most).map_err(|error| wanted.missed(error))?;
@@ -45,14 +49,16 @@ fn last_number(rest: &[u8], wanted: Wanted, most: u64) -> Result<u64, ReadError>
 
 // The same of a number of elements.
 fn last_size(rest: &[u8], wanted: Wanted) -> Result<usize, ReadError>
-    ensures { ReadsNumber 18446744073709551615 rest.now result }
+    ensures number { ReadsNumber 18446744073709551615 rest.now result }
+    ensures fault { IfErr result (NumberError wanted 18446744073709551615 rest.now) }
 {
     last_number(rest, wanted, usize::MAX as u64).map(|n| n as usize)
 }
 
 // What stands behind `feed ramp`.
 fn read_ramp(rest: &[u8]) -> Result<FeedPlan, ReadError>
-    ensures { ReadsBehind spoken_feed (λ ws. codes "feed" ∷ codes "ramp" ∷ ws) rest.now result }
+    ensures said { ReadsBehind spoken_feed (λ ws. codes "feed" ∷ codes "ramp" ∷ ws) rest.now result }
+    ensures fault { IfErr result (RampError rest.now) }
 {
     let (first, second_on) = next_word(rest);
     let start = read_signed(first).map_err(|error| Wanted::Start.missed(error))?;
@@ -64,7 +70,8 @@ fn read_ramp(rest: &[u8]) -> Result<FeedPlan, ReadError>
 
 // What stands behind `feed`.
 fn read_feed(heap: Global, rest: &[u8]) -> Result<FeedPlan, ReadError>
-    ensures { ReadsBehind spoken_feed (λ ws. codes "feed" ∷ ws) rest.now result }
+    ensures said { ReadsBehind spoken_feed (λ ws. codes "feed" ∷ ws) rest.now result }
+    ensures fault { IfErr result (FeedError rest.now) }
 {
     let (kind, more) = next_word(rest);
     match kind {
@@ -76,7 +83,8 @@ fn read_feed(heap: Global, rest: &[u8]) -> Result<FeedPlan, ReadError>
 
 // What stands behind `strip`.
 fn read_strip(rest: &[u8]) -> Result<StripPlan, ReadError>
-    ensures { ReadsBehind spoken_strip (λ ws. codes "strip" ∷ ws) rest.now result }
+    ensures said { ReadsBehind spoken_strip (λ ws. codes "strip" ∷ ws) rest.now result }
+    ensures fault { IfErr result (StripError rest.now) }
 {
     let (kind, more) = next_word(rest);
     match kind {
@@ -88,7 +96,8 @@ fn read_strip(rest: &[u8]) -> Result<StripPlan, ReadError>
 
 // What stands behind any first word.
 pub fn read_behind(heap: Global, verb: &[u8], rest: &[u8]) -> Result<Line, ReadError>
-    ensures { ReadsBehind spoken (λ ws. verb.now ∷ ws) rest.now result }
+    ensures said { ReadsBehind spoken (λ ws. verb.now ∷ ws) rest.now result }
+    ensures fault { IfErr result (LineError verb.now rest.now) }
 {
     match verb {
         b"feed" => read_feed(heap, rest).map(Line::Feed),

@@ -1,9 +1,10 @@
 // The items of a trace, each a word: a reading, or a fault as `fault:3`.
-ghost use Rattle.std.specs.Prelude.{◌≡◌, ℕ, List, MatchResult, ◌≢◌, Some};
+ghost use Rattle.std.specs.Prelude.{◌≡◌, ℕ, List, MatchResult, IfErr, ◌≢◌, Some};
 ghost use Rattle.std.specs.List.{AllByRecursion};
 ghost use Rattle.vocabulary.specs.declared.item.Item.{Item};
 ghost use Rattle.ports.specs.Traces.{item_of, items_of};
 ghost use Rattle.notation.specs.declared.error.ReadError.TheVariants.{Memory};
+ghost use Rattle.notation.specs.Errors.{ItemError, TraceError};
 ghost use Rattle.notation.specs.Lines.{AreItems, IsItem, item_word, ItemRange};
 ghost use Rattle.notation.specs.Words.{Words};
 
@@ -17,7 +18,8 @@ use vocabulary::item::Item;
 
 // The record of an item, whose number in the trace is for messages.
 fn read_item(word: &[u8], number: usize) -> Result<Record, ReadError>
-    ensures { MatchResult result (λ x. IsItem word.now (item_of x)) (λ _. (item : Item) → ItemRange item → IsItem word.now item → ⊥) }
+    ensures item { MatchResult result (λ x. IsItem word.now (item_of x)) (λ _. (item : Item) → ItemRange item → IsItem word.now item → ⊥) }
+    ensures fault { IfErr result (ItemError word.now number) }
 {
     let Some(digits) = word.strip_prefix(b"fault:") else {
         let reading = read_signed(word).map_err(|error| Wanted::Reading(number).missed(error))?;
@@ -36,7 +38,8 @@ fn read_item(word: &[u8], number: usize) -> Result<Record, ReadError>
 
 // The records of a trace, an item a word.
 pub fn read_trace(heap: Global, line: &[u8]) -> Result<Vec<Record>, ReadError>
-    ensures { MatchResult result (λ records. (ws : List (List ℕ)) × Words line.now ws × AreItems ws (items_of records.items)) (λ e. (e ≢ Memory) → (items : List Item) → AllByRecursion ItemRange items → (ws : List (List ℕ)) → Words line.now ws → AreItems ws items → ⊥) }
+    ensures items { MatchResult result (λ records. (ws : List (List ℕ)) × Words line.now ws × AreItems ws (items_of records.items)) (λ e. (e ≢ Memory) → (items : List Item) → AllByRecursion ItemRange items → (ws : List (List ℕ)) → Words line.now ws → AreItems ws items → ⊥) }
+    ensures fault { IfErr result (TraceError line.now) }
 {
     let mut records = Vec::new(heap);
     let mut left = line;
