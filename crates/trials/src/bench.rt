@@ -100,7 +100,7 @@ impl Bench {
 
     fn look(&self, rt: &HostRuntime) -> io::Result<()> {
         let mut text = String::new(rt.alloc());
-        push_bytes(&mut text, rt.alloc(), "memory", self.memory.as_slice())?;
+        push_bytes(&mut text, "memory", self.memory.as_slice())?;
         rt.print(text)
     }
 
