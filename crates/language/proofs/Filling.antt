@@ -1,6 +1,5 @@
 -- Nodes read one after another into places of a list.
-use Rattle.std.proofs.Common.{◌≡◌, ℕ, zero, suc, ◌+◌, ◌*◌, ◌/◌, ◌%◌, ◌<◌, ◌≤◌, true, List, [], ◌∷◌, ◌++◌, length, take, drop, get_or, mul-zero, sym, refl, ap, ◌∙◌, add-one, arith, length-append, take_all}
-use lib.Seq.{take-append-le}
+use Rattle.std.proofs.Common.{◌≡◌, ℕ, zero, suc, ◌+◌, ◌*◌, ◌/◌, ◌%◌, ◌<◌, ◌≤◌, true, List, [], ◌∷◌, ◌++◌, length, take, drop, get_or, mul-zero, sym, refl, ap, ◌∙◌, add-one, arith, length-append}
 use Rattle.std.specs.Simd.{first_chunks}
 use Rattle.std.proofs.lemmas.List.{get_or-take, get_or-drop, drop-drop}
 use Rattle.std.proofs.lemmas.Bool.{and_parts, ltb-true, leb-true, eqb-true}
@@ -44,10 +43,6 @@ unfolding nodes_in
 nodes_more bytes k i nodes l e =
     let f : node_at (get_or (first_chunks 8 k bytes) i []) 0 ≡ node_at bytes (8 * i) = ap (λ (b : List ℕ). node_at b 0) (chunk_at 8 k i bytes l) ∙ node_there bytes (8 * i) in
     ap (λ (xs : List Node). xs ++ node_at (get_or (first_chunks 8 k bytes) i []) 0 ∷ []) e ∙ ap (λ (d : Node). nodes_in bytes i ++ d ∷ []) f ∙ sym (ap (nodes_in bytes) (add-one i))
-
--- the places that were filled hold the nodes of the table
-pub filled_front : (bytes : List ℕ) (old : List Node) (n : ℕ) → take n (nodes_in bytes n ++ old) ≡ nodes_in bytes n
-filled_front bytes old n = let e = length-nodes bytes n in let h : n ≤ length (nodes_in bytes n) = omega arith in take-append-le n (nodes_in bytes n) old h ∙ take_all n (nodes_in bytes n) (omega arith)
 
 -- a table of a length that fits has 1 to 512 nodes
 pub fitting-count : (table : List ℕ) → fits (length table) ≡ true → (0 < length (nodes_of table)) × (length (nodes_of table) ≤ 512)

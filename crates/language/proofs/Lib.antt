@@ -1,5 +1,6 @@
 pub mod ByKind
 pub mod Trees
+pub mod Wording
 pub mod Kinded
 pub mod Fielded
 pub mod Verdicts

@@ -3,6 +3,7 @@ pub mod Fields
 pub mod Kinds
 pub mod Table
 pub mod Reading
+pub mod Words
 pub mod Sound
 pub mod Scope
 pub mod Names

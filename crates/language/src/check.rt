@@ -6,6 +6,7 @@ ghost use Rattle.language.specs.Kinds.{kind_number};
 ghost use Rattle.language.specs.Table.{at, lower, fitting, times, children_in, root_of};
 ghost use Rattle.language.specs.Verdicts.{node_verdict, parent_verdict, root_verdict, upward, shape_verdict, tree_verdict};
 
+use crate::form::Form;
 use crate::kind::{ChildField, Field, Kind, Sort, UnknownKind};
 use crate::rules::children;
 use vocabulary::node::Node;
@@ -42,6 +43,17 @@ impl<'a> Shaped<'a> {
         match Kind::try_from(self.nodes[usize::from(n)].kind) {
             Ok(kind) => kind,
             Err(UnknownKind) => unreachable!(),
+        }
+    }
+
+    // What a node says.
+    pub fn form(self, n: u16) -> Form
+        requires { n < length self.nodes.now }
+        ensures { result.node ≡ at self.entry.nodes.now n }
+    {
+        Form {
+            node: self.nodes[usize::from(n)],
+            kind: self.kind(n),
         }
     }
 }
@@ -110,11 +122,11 @@ impl Counted<'_> {
     }
 
     // A node by itself: the first of its faults.
-    fn check_node(self, n: usize) -> Result<(), Refusal>
-        requires { n < length self.nodes.now }
+    fn check_node(self, n: usize, node: Node) -> Result<(), Refusal>
+        requires here { n < length self.nodes.now }
+        requires is { node ≡ at self.nodes.now n }
         ensures { result ≡ node_verdict self.entry.nodes.now n }
     {
-        let node = self.nodes[n];
         let children = children(node);
         let number = n as u16;
         match node.kind {
@@ -133,8 +145,8 @@ impl Counted<'_> {
     fn check_nodes(self) -> Result<(), Refusal>
         ensures { result ≡ upward (node_verdict self.entry.nodes.now) (length self.entry.nodes.now) 0 }
     {
-        for n in 0..self.nodes.len() {
-            self.check_node(n)?;
+        for (n, node) in self.nodes.iter().enumerate() {
+            self.check_node(n, *node)?;
         }
         Ok(())
     }

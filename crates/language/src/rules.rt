@@ -1,30 +1,9 @@
 ghost use Rattle.std.specs.Prelude.{◌≡◌};
-ghost use Rattle.language.specs.Fields.{is_of, fields_of, fields_in, admits, children};
+ghost use Rattle.language.specs.Fields.{fields_in, admits, children};
 
 use crate::kind::{ChildField, Field, Fields, Kind, Rule, Sort};
 use vocabulary::node::Node;
 use vocabulary::table::Table;
-
-// Whether a kind is of a sort.
-pub fn is_of(sort: Sort, kind: u8) -> bool
-    ensures { result ≡ is_of sort kind }
-{
-    match sort {
-        Sort::Command => matches!(kind, 1..=7),
-        Sort::Declaration => matches!(kind, 10..=14),
-        Sort::Expression => matches!(kind, 20..=26),
-    }
-}
-
-// The rules of a kind, if the kind is known.
-pub fn fields_of(kind: u8) -> Option<Fields>
-    ensures { result ≡ fields_of kind }
-{
-    let Ok(kind) = Kind::try_from(kind) else {
-        return None;
-    };
-    Some(kind.fields())
-}
 
 // The children of a node, a before b before c; none where its kind is unknown.
 pub fn children(node: Node) -> Table<ChildField, 3>

@@ -1,7 +1,8 @@
 -- Columns hold: a level and the number of its node together never pass the root's number, so both have at most three digits.
 use Rattle.std.proofs.Common.{◌≡◌, ℕ, zero, suc, ◌+◌, ◌-◌, ◌^◌, ◌<◌, ◌≤◌, true, List, [], ◌∷◌, ◌++◌, length, get_or, Ok, decimal, ◌∙◌, arith, lit≤, length-append}
 use lib.ListN.{length-replicate}
-use Rattle.std.specs.List.{flat_map}
+use Rattle.std.specs.List.{flat_map, All}
+use Rattle.std.proofs.lemmas.List.Elements.{All-append, All-cons}
 use Rattle.std.specs.Fmt.{signed_decimal}
 use Rattle.std.proofs.lemmas.Fmt.{length-decimal-le, length_signed_le}
 use Rattle.std.proofs.lemmas.Bool.{and_parts, ltb-true}
@@ -20,32 +21,23 @@ use Rattle.listing.specs.Columns.{Aligned, EvenCode}
 use Rattle.listing.specs.Page.{spaces, left, right}
 use Rattle.listing.specs.Rows.{row, walked, rows_of}
 
--- every row's number and level together are at most m
-abbrev Within : ℕ → List Row → Type 0
-Within m [] = Unit {0}
-Within m (r ∷ rows) = (r.node + r.level ≤ m) × Within m rows
+-- a row's number and level together are at most m
+abbrev Within : ℕ → Row → Type 0
+Within m r = r.node + r.level ≤ m
 
-within-++ : (m : ℕ) (xs ys : List Row) → Within m xs → Within m ys → Within m (xs ++ ys)
-within-++ m [] ys h g = g
-within-++ m (x ∷ xs) ys h g = (h.0, within-++ m xs ys h.1 g)
-
-within-below : (m n : ℕ) (f : ℕ → List Row) → ((k : ℕ) → k < n → Within m (f k)) → (held : List ChildField) → lower n held ≡ true → Within m (flat_map (λ child. f child.number) held)
-within-below m n f h [] l = tt
+within-below : (m n : ℕ) (f : ℕ → List Row) → ((k : ℕ) → k < n → All (Within m) (f k)) → (held : List ChildField) → lower n held ≡ true → All (Within m) (flat_map (λ child. f child.number) held)
+within-below m n f h [] l = λ k d u. absurd (omega arith)
 within-below m n f h (x ∷ held) l =
     let p = and_parts _ _ l in
-    within-++ m (f x.number) (flat_map (λ child. f child.number) held) (h x.number (ltb-true _ _ p.0)) (within-below m n f h held p.1)
+    All-append (Within m) (f x.number) (flat_map (λ child. f child.number) held) (h x.number (ltb-true _ _ p.0)) (within-below m n f h held p.1)
 
 module _ (nodes : List Node) (below : (n : ℕ) → n < length nodes → lower n (children (at nodes n)) ≡ true) where
-  walk-within : (m d : ℕ) (here : Row) → here.node < length nodes → here.node + here.level ≤ m → Within m (walked d nodes here)
+  walk-within : (m d : ℕ) (here : Row) → here.node < length nodes → here.node + here.level ≤ m → All (Within m) (walked d nodes here)
   unfolding walked
-  walk-within m zero here l h = tt
+  walk-within m zero here l h = λ k d u. absurd (omega arith)
   walk-within m (suc d) here l h =
-      (h, within-below m here.node (λ k. walked d nodes (row k (here.level + 1))) (λ k u. walk-within m d (row k (here.level + 1)) (omega arith) (omega arith)) (children (at nodes here.node)) (below here.node l))
-
-within_at : (m : ℕ) (rows : List Row) → Within m rows → (i : ℕ) → i < length rows → (get_or rows i (row 0 0)).node + (get_or rows i (row 0 0)).level ≤ m
-within_at m [] h i l = absurd (omega arith)
-within_at m (r ∷ rows) h zero l = h.0
-within_at m (r ∷ rows) h (suc i) l = within_at m rows h.1 i (omega arith)
+      All-cons (Within m) here _ h
+      (within-below m here.node (λ k. walked d nodes (row k (here.level + 1))) (λ k u. walk-within m d (row k (here.level + 1)) (omega arith) (omega arith)) (children (at nodes here.node)) (below here.node l))
 
 -- a text that is not wider than its column fills it
 fills_right : (w : ℕ) (text : List ℕ) → length text ≤ w → length (right w text) ≡ w
@@ -63,7 +55,7 @@ aligned nodes accepted few i l =
     let s = some nodes shape.root in
     let r = get_or (rows_of nodes) i (row 0 0) in
     let b : r.node + r.level ≤ root_of nodes =
-    within_at (root_of nodes) (rows_of nodes) (walk-within nodes (λ n u. (shape.keep n u).below) (root_of nodes) (suc (root_of nodes)) (row (root_of nodes) 0) (omega arith) (omega arith)) i l in
+    walk-within nodes (λ n u. (shape.keep n u).below) (root_of nodes) (suc (root_of nodes)) (row (root_of nodes) 0) (omega arith) (omega arith) i (row 0 0) l in
     (fills 5 3 r.node (omega arith) (omega arith) (omega arith) (omega arith), fills 7 3 r.level (omega arith) (omega arith) (omega arith) (omega arith))
 
 name_short : (i : Instruction) → length (name_of i) ≤ 5

@@ -19,9 +19,10 @@ use Rattle.language.specs.Reading.FormC.{assign_f, output_f, when_f, while_f, bl
 use Rattle.language.specs.Reading.FormD.{constant_f, variable_f, procedure_f, function_f, pair_f}
 use Rattle.language.specs.Table.{at, hit}
 use Rattle.language.specs.Verdicts.{shape_verdict}
+use Rattle.language.specs.Words.{words_e, words_c, words_d, words_of}
 use Rattle.listing.specs.declared.rows.Row.{Row}
 use Rattle.listing.specs.Counts.{lines_in, OneLineEach}
-use Rattle.listing.specs.Page.{spaces, left, right, line, words_e, words_c, words_d, words_of, tree_line, code_line, code_lines, tree_heading, code_heading, tree_part, code_part, page}
+use Rattle.listing.specs.Page.{spaces, left, right, line, tree_line, code_line, code_lines, tree_heading, code_heading, tree_part, code_part, page}
 use Rattle.listing.specs.Rows.{rows_of}
 use Rattle.listing.proofs.Weighing.{as_many_rows, one_row}
 

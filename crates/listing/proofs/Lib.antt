@@ -1,5 +1,4 @@
 pub mod Styling
-pub mod Wording
 pub mod Joining
 pub mod Walking
 pub mod Parting

@@ -2,6 +2,7 @@
 use Rattle.std.proofs.Common.{◌≡◌, ℕ, zero, suc, ◌+◌, ◌<◌, true, List, [], ◌∷◌, ◌++◌, length, get_or, take, Ok, refl, ap, ◌∙◌, append-nil, arith}
 use Rattle.std.specs.List.{flat_map}
 use Rattle.std.proofs.lemmas.Bool.{and_parts, ltb-true}
+use Rattle.std.proofs.lemmas.Grind.{flat_map-append}
 use Rattle.std.proofs.lemmas.List.{take_more}
 use Rattle.vocabulary.specs.declared.node.Node.{Node}
 use Rattle.language.specs.declared.kind.ChildField.{ChildField}
@@ -12,7 +13,6 @@ use Rattle.language.proofs.Shape.{shaped}
 use Rattle.listing.specs.declared.rows.Row.{Row}
 use Rattle.listing.specs.Page.{tree_line}
 use Rattle.listing.specs.Rows.{row, walked, walk, walks}
-use Rattle.listing.proofs.Joining.{joined-++}
 
 -- what agrees on the numbers below m agrees on children that are lower than m
 pub same_below : (m : ℕ) (f g : ℕ → List Row) → ((n : ℕ) → n < m → f n ≡ g n) → (held : List ChildField) → lower m held ≡ true → flat_map (λ child. f child.number) held ≡ flat_map (λ child. g child.number) held
@@ -55,6 +55,6 @@ module _ (nodes : List Node) (here : Row) where
   lines_more held i d l =
       let walk_of = λ (c : ChildField). walk nodes (row c.number (here.level + 1)) in
       ap (λ (cs : List ChildField). lines cs) (take_more held i d l)
-      ∙ ap (flat_map (tree_line nodes)) (joined-++ walk_of (take i held) (get_or held i d ∷ []))
-      ∙ joined-++ (tree_line nodes) (walks nodes here (take i held)) (walks nodes here (get_or held i d ∷ []))
+      ∙ ap (flat_map (tree_line nodes)) (flat_map-append walk_of (take i held) (get_or held i d ∷ []))
+      ∙ flat_map-append (tree_line nodes) (walks nodes here (take i held)) (walks nodes here (get_or held i d ∷ []))
       ∙ ap (λ (rows : List Row). lines (take i held) ++ flat_map (tree_line nodes) rows) (append-nil (walk_of (get_or held i d)))

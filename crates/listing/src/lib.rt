@@ -4,7 +4,6 @@
 ghost use Rattle.listing.specs.Listed.{Listed};
 
 pub mod error;
-mod form;
 mod lines;
 mod parts;
 pub mod rows;

@@ -2,7 +2,6 @@
 ghost use Rattle.std.specs.Prelude.{◌≡◌, ◌<◌, ◌++◌, length, string_bytes, OnOk};
 ghost use Rattle.listing.specs.Page.{tree_line, code_line};
 
-use crate::form::Form;
 use crate::rows::Row;
 use language::check::Shaped;
 use std::alloc::AllocError;
@@ -14,10 +13,7 @@ pub fn push_tree_line(text: &mut String, shaped: Shaped<'_>, row: Row) -> Result
     ensures { OnOk result (string_bytes text.new ≡ string_bytes text.old ++ tree_line shaped.entry.nodes.now row) }
 {
     let Row { node, level } = row;
-    let form = Form {
-        node: shaped.nodes[usize::from(node)],
-        kind: shaped.kind(node),
-    };
+    let form = shaped.form(node);
     let indent = 2 + 2 * usize::from(level).min(30);
     writeln!(text, "{node:>5}{level:>7}{:indent$}{form}", "")
 }

@@ -55,11 +55,21 @@ module _ (R : Rules) (code : List Word) where
       let u = l.counts in
       (sym (iterate-stays (n - d) b h) ∙ l.comes, omega arith)
 
-pub stops : (r : Status) (c : Core) (w : Ports) → (r ≡ Running → ⊥) → counted (stands r c w) ≡ 0
+stops : (r : Status) (c : Core) (w : Ports) → (r ≡ Running → ⊥) → counted (stands r c w) ≡ 0
 stops Running c w ne = absurd (ne refl)
 stops (Halted e k) c w ne = refl
 stops Broken c w ne = refl
 
-pub not_running : (r : Status) → ((x : End) × (n : ℕ) × (r ≡ Halted x n)) ⊎ (r ≡ Broken) → r ≡ Running → ⊥
+not_running : (r : Status) → ((x : End) × (n : ℕ) × (r ≡ Halted x n)) ⊎ (r ≡ Broken) → r ≡ Running → ⊥
 not_running r (inl h) g = let e = h.2 in let z : ◌≡◌ {A = ℕ} 0 1 = cc in omega arith
 not_running r (inr e) g = let z : ◌≡◌ {A = ℕ} 0 1 = cc in omega arith
+
+-- the last step: what it comes to, and how many were carried out with it
+ended : (R : Rules) (code : List Word) (n d : ℕ) (a b : State) (k : Core) (w : Ports) (r : Status) → d < n → counted b ≡ 1 → Left R code n d a b → stands r k w ≡ step R code b → ((x : End) × (m : ℕ) × (r ≡ Halted x m)) ⊎ (r ≡ Broken) → (stands r k w ≡ iterate R code n a) × (d + 1 ≡ taken R code n a)
+ended R code n d a b k w r h o l s q = left_stop R code n (d + 1) a (stands r k w) (stops r k w (not_running r q)) (left_less R code n d a b (stands r k w) h o l s)
+
+pub came_to : (R : Rules) (code : List Word) (n d : ℕ) (a b : State) (k : Core) (w : Ports) (r : Status) → d < n → counted b ≡ 1 → Left R code n d a b → stands r k w ≡ step R code b → ((x : End) × (m : ℕ) × (r ≡ Halted x m)) ⊎ (r ≡ Broken) → stands r k w ≡ iterate R code n a
+came_to R code n d a b k w r h o l s q = (ended R code n d a b k w r h o l s q).0
+
+pub was_counted : (R : Rules) (code : List Word) (n d : ℕ) (a b : State) (k : Core) (w : Ports) (r : Status) → d < n → counted b ≡ 1 → Left R code n d a b → stands r k w ≡ step R code b → ((x : End) × (m : ℕ) × (r ≡ Halted x m)) ⊎ (r ≡ Broken) → d + 1 ≡ taken R code n a
+was_counted R code n d a b k w r h o l s q = (ended R code n d a b k w r h o l s q).1

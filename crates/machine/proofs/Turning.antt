@@ -1,6 +1,6 @@
 -- What the machine of lists does in the instructions that change the links of the tables, said of the lists that the tables
 -- show before and after; and a step from its instruction.
-use Rattle.std.proofs.Common.{◌≡◌, ℕ, suc, ◌<◌, ◌≤◌, Bool, true, false, ltb, List, ◌∷◌, length, reverse, drop, Some, Option, Ok, Err, Result, sym, refl, ap, ◌∙◌, arith}
+use Rattle.std.proofs.Common.{◌≡◌, ℕ, suc, ◌<◌, ◌≤◌, true, false, ltb, List, ◌∷◌, length, reverse, Some, Option, Ok, Err, Result, refl, ap, ◌∙◌, arith}
 use Rattle.std.proofs.lemmas.Bool.{lt-ltb, le-ltb}
 use Rattle.vocabulary.specs.declared.table.TableFull.{TableFull}
 use Rattle.vocabulary.specs.Appending.{Pushed}
@@ -9,20 +9,18 @@ use Rattle.vocabulary.specs.declared.value.Plain.{Plain}
 use Rattle.vocabulary.specs.declared.value.Value.{Value}
 use Rattle.vocabulary.specs.declared.code.Word.{Word}
 use Rattle.vocabulary.specs.World.{Rules}
-use Rattle.machine.specs.declared.tables.Bound.{Bound}
-use Rattle.machine.specs.declared.tables.Bound.TheVariants.{Holds, Body}
 use Rattle.machine.specs.declared.tables.Entry.{Entry}
 use Rattle.machine.specs.declared.tables.Frame.{Frame}
 use Rattle.machine.specs.declared.tables.Stop.{Stop}
 use Rattle.machine.specs.declared.tables.Stop.TheVariants.{Ended, Stuck}
-use Rattle.machine.specs.Instructions.{guard, bind_as, dumped, under, goto, invoke}
+use Rattle.machine.specs.Instructions.{guard, bind_as, dumped, goto}
 use Rattle.machine.specs.Machine.{perform, step}
 use Rattle.machine.specs.State.{Core, core, Turn, Ports, noted, joined}
 use Rattle.machine.specs.State.Moved.{moved}
 use Rattle.machine.specs.State.State.{running}
 use Rattle.machine.specs.State.Dump.{frame}
 use Rattle.machine.specs.State.Turn.{goes, stuck}
-use Rattle.machine.specs.Seen.{after, stands, stopped}
+use Rattle.machine.specs.Seen.{after, stands, status_of}
 use Rattle.machine.specs.Links.{reach, chain, chains, nested}
 use Rattle.machine.proofs.Linking.{Grown, chains-length, chains_more, nested-enter, nested_env}
 
@@ -52,34 +50,12 @@ dump_full t fs k h =
     let l : ltb (length (chains t fs)) 512 ≡ false = rw chains-length (le-ltb (length fs) 512 h) in
     rw l
 
--- a body is entered, once the frame is on the dump
-guarded : (b : Bool) (k : Core) (t u : Turn) → goes k ≡ guard b t → guard b u ≡ u
-guarded true k t u h = refl
-guarded false k t u h = cc
+-- a stop at a node
 
-dumped_is : (b : Bool) (k j : Core) → goes k ≡ guard b (goes j) → k ≡ j
-dumped_is true k j h = cc
-dumped_is false k j h = cc
-
-pub call_goes : (d body : ℕ) (v : Value) (m : List Bound) (j k : Core) → found k.environment d ≡ Some (Body body) → drop (suc d) k.environment ≡ m → goes j ≡ guard (ltb (length k.dump) 512) (goes (dumped k.position k)) →
-    bind_as 512 (Holds v) (goto body (under m j)) ≡ invoke 512 v (found k.environment d) d k
-call_goes d body v m j k f r g =
-    let e : j ≡ dumped k.position k = dumped_is _ _ _ g in
-    rw (e, f, ← r) (sym (guarded (ltb (length k.dump) 512) j (goes (dumped k.position k)) _ g))
-
-no_room : (b : Bool) (s : Stop) (j k : Core) (t : Turn) → after (Err s) j ≡ guard b (goes k) → after (Err s) j ≡ guard b t
-no_room true (Ended e) j k t g = cc
-no_room true Stuck j k t g = cc
-no_room false s j k t g = g
-
-pub call_full : (d body : ℕ) (v : Value) (s : Stop) (j k : Core) → found k.environment d ≡ Some (Body body) → after (Err s) j ≡ guard (ltb (length k.dump) 512) (goes (dumped k.position k)) →
-    after (Err s) j ≡ invoke 512 v (found k.environment d) d k
-call_full d body v s j k f g = rw f (no_room (ltb (length k.dump) 512) s j _ _ g)
-
-stopped_is : (s : Stop) (node : ℕ) (d : Core) (u : Ports) → stands (stopped s node) d u ≡ noted node (moved (after (Err s) d) u)
+stopped_is : (s : Stop) (node : ℕ) (d : Core) (u : Ports) → stands (status_of s node) d u ≡ noted node (moved (after (Err s) d) u)
 stopped_is (Ended e) node d u = refl
 stopped_is Stuck node d u = refl
 
 pub step_stops : (R : Rules) (code : List Word) (x : Word) (k : ℕ) (s : Stop) (c d : Core) (w u : Ports) → found code c.position ≡ Some x → k ≡ suc c.position → moved (after (Err s) d) u ≡ perform R x.instruction (goto k c) w →
-    stands (stopped s x.node) d u ≡ step R code (running (joined c w))
+    stands (status_of s x.node) d u ≡ step R code (running (joined c w))
 step_stops R code x k s c d w u f e m = rw f (stopped_is s x.node d u ∙ ap (noted x.node) (m ∙ ap (λ n. perform R x.instruction (goto n c) w) e))

@@ -49,11 +49,7 @@ between f s feed strip = ports (f.waiting feed) (s.held strip) (s.space strip)
 abbrev pub state_of : {F S : Type 0} → FeedMembers F → StripMembers S → Status → Machine → F → S → State
 state_of f s status m feed strip = stands status (seen m) (between f s feed strip)
 
--- how the machine stands after a stop at a node, and after an instruction of a node
-abbrev pub stopped : Stop → ℕ → Status
-stopped (Ended e) node = Halted e node
-stopped Stuck node = Broken
-
-abbrev pub status_of : Said → ℕ → Status
-status_of (Ok _) node = Running
-status_of (Err s) node = stopped s node
+-- how the machine stands after a stop at a node
+abbrev pub status_of : Stop → ℕ → Status
+status_of (Ended e) node = Halted e node
+status_of Stuck node = Broken

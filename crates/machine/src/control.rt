@@ -1,19 +1,17 @@
 ghost use Rattle.std.specs.Prelude.{◌≡◌};
 ghost use Rattle.machine.specs.Instructions.{jump_false, goto, call, ret};
 ghost use Rattle.machine.specs.Seen.{seen, after};
-ghost use Rattle.machine.specs.State.Turn.{goes};
 
 use crate::state::Machine;
-use crate::tables::{Bound, Entry, Stop};
+use crate::tables::{Bound, Stop};
 use vocabulary::end::End;
 use vocabulary::value::{Plain, Value};
 
 impl Machine {
-    pub(crate) fn jump(&mut self, to: u16) -> Result<(), Stop>
-        ensures { after result (seen self.new) ≡ goes (goto to (seen self.old)) }
+    pub(crate) fn jump(&mut self, to: u16)
+        ensures { seen self.new ≡ goto to (seen self.old) }
     {
         self.position = to as usize;
-        Ok(())
     }
 
     // Pops a truth, and jumps if it is false.
@@ -26,7 +24,8 @@ impl Machine {
         if truth {
             return Ok(());
         }
-        self.jump(to)
+        self.jump(to);
+        Ok(())
     }
 
     // The body runs in the environment below its own entry, not in the caller's.
@@ -43,7 +42,7 @@ impl Machine {
         };
         self.dump(self.position)?;
         self.bindings.enter(closure.below);
-        self.position = body as usize;
+        self.jump(body);
         self.bind_as(Bound::Holds(argument))
     }
 

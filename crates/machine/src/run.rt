@@ -12,6 +12,7 @@ use vocabulary::code::Word;
 
 impl Machine {
     // At most `fuel` steps, fewer where the machine stops before.
+    #[tactic(auto, using(crate::proofs::Running::left_none, crate::proofs::Running::came_to, crate::proofs::Running::was_counted))]
     pub fn run<F: Feed, S: Strip>(
         &mut self,
         code: &[Word],

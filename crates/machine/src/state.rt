@@ -6,8 +6,8 @@ use crate::tables::Frame;
 use vocabulary::table::Table;
 use vocabulary::value::{Plain, Value};
 
-// The values that wait, the cells, the bindings with the present environment, the dump, and the position of the next word.
-// What it means as lists is `seen` of specs/Seen.antt.
+// The values that wait, the cells, the bindings with the present environment, the dump, and the position of the next word. No
+// heap: each table has its 512 places in the machine. What it means as lists is `seen` of specs/Seen.antt.
 #[derive(Drop)]
 pub struct Machine {
     pub(crate) values: Table<Value, 512>,

@@ -2,7 +2,7 @@ ghost use Rattle.std.specs.Prelude.{◌≡◌};
 ghost use Rattle.vocabulary.specs.World.{rules};
 ghost use Rattle.machine.specs.declared.tables.Status.TheVariants.{Running};
 ghost use Rattle.machine.specs.Machine.{perform, step};
-ghost use Rattle.machine.specs.Seen.{seen, after, stopped, between, state_of};
+ghost use Rattle.machine.specs.Seen.{seen, after, status_of, between, state_of};
 ghost use Rattle.machine.specs.State.Moved.{moved};
 
 use crate::state::Machine;
@@ -16,7 +16,7 @@ use vocabulary::value::{Plain, Value};
 impl Stop {
     // How the machine stands after a stop at a node.
     pub(crate) fn at(self, node: u16) -> Status
-        ensures { result ≡ stopped self node }
+        ensures { result ≡ status_of self node }
     {
         match self {
             Stop::Ended(end) => Status::Halted(end, node),
@@ -44,7 +44,10 @@ impl Machine {
             Instruction::Deref => self.deref(),
             Instruction::Op(operator) => self.operation(operator),
             Instruction::JumpFalse(to) => self.jump_false(to),
-            Instruction::Jump(to) => self.jump(to),
+            Instruction::Jump(to) => {
+                self.jump(to);
+                Ok(())
+            }
             Instruction::Call(newer) => self.call(newer),
             Instruction::Ret => self.ret(),
             Instruction::IsLoc => self.is_loc(),

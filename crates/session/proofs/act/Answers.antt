@@ -3,25 +3,25 @@ use Rattle.session.proofs.act.Goals as goal
 
 pub returns-in-Load : goal.returns-in-Load
 returns-in-Load g c = record {
-  acted = loads _ _ _ _ _ _ _ _ c.in-Load.is c.load.ensures c.into.ensures;
+  acted = loads _ _ c.args.sequencer.now c.load.new.self _ _ _ _ c.in-Load.is c.load.ensures c.into.ensures;
   kept = g.S.Strip.stays _;
 }
 
 pub returns-in-Open : goal.returns-in-Open
 returns-in-Open g c = record {
-  acted = opens _ _ _ _ _ _ _ _ c.in-Open.is c.open.ensures c.into-in-Open.ensures;
+  acted = opens _ _ c.args.sequencer.now c.open.new.self _ _ _ _ c.in-Open.is c.open.ensures c.into-in-Open.ensures;
   kept = g.S.Strip.stays _;
 }
 
 pub returns-in-Rewind : goal.returns-in-Rewind
 returns-in-Rewind g c = record {
-  acted = rewinds _ _ _ _ _ _ _ c.in-Rewind.is c.rewind.ensures c.into-in-Rewind.ensures;
+  acted = rewinds _ _ c.args.sequencer.now c.rewind.new.self _ _ _ c.in-Rewind.is c.rewind.ensures c.into-in-Rewind.ensures;
   kept = g.S.Strip.stays _;
 }
 
 pub returns-in-Run : goal.returns-in-Run
 returns-in-Run g c = record {
-  acted = runs _ _ _ _ _ _ _ _ _ c.in-Run.is c.run.ensures.answer c.into-in-Run.ensures;
+  acted = runs _ _ c.args.sequencer.now c.run.new.self _ _ _ _ _ c.in-Run.is c.run.ensures.answer c.into-in-Run.ensures;
   kept = c.run.ensures.kept;
 }
 

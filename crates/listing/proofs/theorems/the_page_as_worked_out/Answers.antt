@@ -2,7 +2,8 @@ use Rattle.std.proofs.Common.{refl}
 use Rattle.std.specs.Fmt.{digits}
 use Rattle.language.specs.Fields.{fields_of, children}
 use Rattle.language.specs.Reading.{form_e, form_c}
-use Rattle.listing.specs.Page.{words_of, tree_part, code_part}
+use Rattle.language.specs.Words.{words_of}
+use Rattle.listing.specs.Page.{tree_part, code_part}
 use Rattle.listing.specs.Rows.{walked}
 use Rattle.listing.proofs.theorems.the_page_as_worked_out.Goals as goal
 

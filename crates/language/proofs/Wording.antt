@@ -9,7 +9,7 @@ use Rattle.language.specs.declared.kind.Kind.TheVariants.{Assign, Output, If, Wh
 use Rattle.language.specs.Kinds.{kind_number, kind_words}
 use Rattle.language.specs.Reading.{form_e, form_c, form_d, number_in, operation_of}
 use Rattle.language.proofs.ByKind.{with_kind}
-use Rattle.listing.specs.Page.{words_of}
+use Rattle.language.specs.Words.{words_of}
 
 -- what stands behind the kind's name
 abbrev named : Node → List ℕ

@@ -1,7 +1,7 @@
 use Rattle.std.proofs.Common.{sym, w32, SFits, rules}
 use Rattle.std.proofs.lemmas.Int.{to_z-of_z}
-use Rattle.listing.proofs.Wording.{said_alone, said_named, said_with_parameter, said_number, said_truth, said_operation}
-use Rattle.listing.proofs.form.FormDisplay.fmt.Goals as goal
+use Rattle.language.proofs.Wording.{said_alone, said_named, said_with_parameter, said_number, said_truth, said_operation}
+use Rattle.language.proofs.form.FormDisplay.fmt.Goals as goal
 
 pub returns-in-Assign-clause-writes : goal.returns-in-Assign-clause-writes
 returns-in-Assign-clause-writes g c = let s = c.args.self.now in rw (said_alone s.kind s.node s.kept c.in-Assign.is) c.write.ensures.writes
