@@ -52,7 +52,12 @@ impl Bench {
     }
 
     // Carries out a call of the sequencer.
-    fn answer<F: Feed, S: Strip>(&mut self, call: &CallPlan, feed: &mut F, strip: &mut S) -> Answer {
+    fn answer<F: Feed, S: Strip>(
+        &mut self,
+        call: &CallPlan,
+        feed: &mut F,
+        strip: &mut S,
+    ) -> Answer {
         match call {
             CallPlan::Load(table) => self.sequencer.load(table.as_slice()).into(),
             CallPlan::Open(sheet) => self.sequencer.open(sheet.as_slice()).into(),
