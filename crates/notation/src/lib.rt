@@ -8,6 +8,6 @@ pub mod number;
 pub mod plan;
 mod reading;
 pub mod theorems;
-mod trace;
+pub mod trace;
 pub mod word;
 mod writing;

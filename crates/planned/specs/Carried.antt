@@ -58,4 +58,4 @@ left_ports left = ports (vec_items left.items) (values_held left.filled) left.sp
 abbrev pub Carried : {A E : Type 0} → (A → Ports → Ports → Type 0) → FeedPlan → StripPlan → Result (Outcome A) (CarryError E) → Type 0
 Carried does feed strip (Ok o) = (feed_fits feed ≡ true) × does o.answer (planned_ports feed strip) (left_ports o.left)
 Carried does feed strip (Err (Refused e)) = (feed_fits feed ≡ false) × (e ≡ refusal RampRange 0)
-Carried does feed strip (Err (Failed e)) = feed_fits feed ≡ true
+Carried does feed strip (Err (Failed e)) = Unit {0}

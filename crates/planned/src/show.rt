@@ -4,11 +4,11 @@ ghost use Rattle.std.specs.List.{flat_map};
 ghost use Rattle.ports.specs.Lines.{word_of};
 ghost use Rattle.ports.specs.Records.{value_of};
 ghost use Rattle.planned.specs.Answers.{answer_text, answers_text};
-ghost use Rattle.notation.specs.Lines.{item_word};
 ghost use Rattle.planned.specs.Leaves.{items_text, records_text, byte_text, lines_text, bytes_text, filled_text, memory_text, left_text};
 
 use crate::carry::{Filled, Left};
-use notation::hex::hex_text;
+use notation::hex::Hex;
+use notation::trace::AsWord;
 use ports::records::OutRecord;
 use session::Answer;
 use std::alloc::{AllocError, Global};
@@ -37,24 +37,6 @@ impl fmt::Display for InNumbers {
                 let number = refusal.cause.number();
                 let node = refusal.node;
                 write!(f, "refused {number} {node}")
-            }
-        }
-    }
-}
-
-// An item as a feed line has it.
-#[derive(Clone, Copy)]
-pub struct AsWord(pub Item);
-
-impl fmt::Display for AsWord {
-    ghost output = { λ i. Some (item_word i.0) };
-
-    fn fmt<W: fmt::Write>(&self, f: &mut fmt::Formatter<W>) -> fmt::Result {
-        match self.0 {
-            Item::Reading(reading) => write!(f, "{reading}"),
-            Item::Fault(fault) => {
-                let code = fault.code;
-                write!(f, "fault:{code}")
             }
         }
     }
@@ -149,14 +131,14 @@ fn push_lines(text: &mut String, lines: &[u8]) -> Result<(), AllocError>
 }
 
 // A line of bytes in hex digits, behind a word that says what they are.
-pub fn push_bytes(text: &mut String, heap: Global, word: &str, bytes: &[u8]) -> Result<(), AllocError>
+pub fn push_bytes(text: &mut String, word: &str, bytes: &[u8]) -> Result<(), AllocError>
     ensures { OnOk result (string_bytes text.new ≡ string_bytes text.old ++ bytes_text word.now bytes.now) }
 {
     if bytes.is_empty() {
         text.writeln(word)?;
         return Ok(());
     }
-    let digits = hex_text(heap, bytes)?;
+    let digits = Hex(bytes);
     writeln!(text, "{word} {digits}")?;
     Ok(())
 }
@@ -173,12 +155,12 @@ impl Filled {
     }
 
     // The bytes that a text strip holds.
-    fn push_memory(&self, text: &mut String, heap: Global) -> Result<(), AllocError>
+    fn push_memory(&self, text: &mut String) -> Result<(), AllocError>
         ensures { OnOk result (string_bytes text.new ≡ string_bytes text.old ++ memory_text self.now) }
     {
         match self {
             Filled::Records(_) => Ok(()),
-            Filled::Text(bytes) => push_bytes(text, heap, "text", bytes.as_slice()),
+            Filled::Text(bytes) => push_bytes(text, "text", bytes.as_slice()),
         }
     }
 }
@@ -193,6 +175,6 @@ pub fn left_text(heap: Global, left: &Left) -> Result<String, AllocError>
     left.filled.push_values(&mut text)?;
     let space = left.space;
     write!(text, "\nspace {space}\n")?;
-    left.filled.push_memory(&mut text, heap)?;
+    left.filled.push_memory(&mut text)?;
     Ok(text)
 }

@@ -40,10 +40,7 @@ fn record_in(word: &str) -> Result<Record, ScriptError> {
 }
 
 fn trace_in(heap: Global, words: &[&str]) -> Result<FeedPlan, ScriptError> {
-    let records = words
-        .iter()
-        .map(|word| record_in(*word))
-        .try_collect(heap)?;
+    let records = words.iter().map(|word| record_in(*word)).try_collect(heap)?;
     Ok(FeedPlan::Trace(records))
 }
 

@@ -52,21 +52,19 @@ impl Bench {
     }
 
     // Carries out a call of the sequencer.
-    fn answer<F: Feed, S: Strip>(&mut self, call: &CallPlan, feed: &mut F, strip: &mut S) -> Answer {
-        let done = match call {
-            CallPlan::Load(table) => self.sequencer.load(table.as_slice()),
-            CallPlan::Open(sheet) => self.sequencer.open(sheet.as_slice()),
-            CallPlan::Rewind => self.sequencer.rewind(),
-            CallPlan::Run(fuel) => {
-                let told = self.sequencer.run(*fuel, feed, strip);
-                return told.map_or_else(Answer::Refused, Answer::Told);
-            }
-            CallPlan::Report => {
-                let told = self.sequencer.report();
-                return told.map_or_else(Answer::Refused, Answer::Told);
-            }
-        };
-        done.map_or_else(Answer::Refused, |()| Answer::Done)
+    fn answer<F: Feed, S: Strip>(
+        &mut self,
+        call: &CallPlan,
+        feed: &mut F,
+        strip: &mut S,
+    ) -> Answer {
+        match call {
+            CallPlan::Load(table) => self.sequencer.load(table.as_slice()).into(),
+            CallPlan::Open(sheet) => self.sequencer.open(sheet.as_slice()).into(),
+            CallPlan::Rewind => self.sequencer.rewind().into(),
+            CallPlan::Run(fuel) => self.sequencer.run(*fuel, feed, strip).into(),
+            CallPlan::Report => self.sequencer.report().into(),
+        }
     }
 
     // Carries out a step, and prints its answer if it has one.
@@ -100,7 +98,7 @@ impl Bench {
 
     fn look(&self, rt: &HostRuntime) -> io::Result<()> {
         let mut text = String::new(rt.alloc());
-        push_bytes(&mut text, rt.alloc(), "memory", self.memory.as_slice())?;
+        push_bytes(&mut text, "memory", self.memory.as_slice())?;
         rt.print(text)
     }
 

@@ -18,7 +18,11 @@ struct Steps<'a> {
 // Steps one by one, by the single calls of a new sequencer.
 impl Job for Steps<'_> {
     type Answer = ();
+
     type Error = anyhow::Error;
+
+    // No contract speaks of a trial.
+    ghost does = { λ job answer rules before after. Unit {0} };
 
     fn work<F: Feed, S: Strip>(&self, feed: &mut F, strip: &mut S) -> anyhow::Result<()> {
         let mut bench = Bench::new(self.rt.alloc());

@@ -57,12 +57,7 @@ fn node_at(nodes: &[Node], n: u16) -> Node {
 }
 
 // The first field that is at fault.
-fn fields_advice(
-    heap: Global,
-    nodes: &[Node],
-    n: u16,
-    cause: Cause,
-) -> Result<String, AllocError> {
+fn fields_advice(heap: Global, nodes: &[Node], n: u16, cause: Cause) -> Result<String, AllocError> {
     let node = node_at(nodes, n);
     if let Ok(kind) = Kind::try_from(node.kind) {
         for (called, field) in FIELDS.iter().zip(kind.fields().of(node)) {
@@ -140,9 +135,7 @@ pub fn table_advice(heap: Global, table: &[u8], refusal: Refusal) -> Result<Stri
         Ok(nodes) => nodes_advice(heap, nodes.as_slice(), refusal),
         Err(_length) => {
             let size = table.len();
-            format!(in heap;
-                "it has {size} bytes; a table has 8 bytes a node, for 1 to 512 nodes"
-            )
+            format!(in heap; "it has {size} bytes; a table has 8 bytes a node, for 1 to 512 nodes")
         }
     }
 }

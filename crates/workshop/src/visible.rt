@@ -101,5 +101,11 @@ pub fn latest(
     let mut scope = Vec::new(heap);
     let _met = walk(nodes, nodes.len().saturating_sub(1), target, &mut scope)?;
     let name = u16::from(name);
-    Ok(scope.iter().rev().find(|visible| visible.name == name).copied())
+    Ok(
+        scope
+            .iter()
+            .rev()
+            .find(|visible| visible.name == name)
+            .copied(),
+    )
 }

@@ -9,7 +9,11 @@ pub struct Called(pub Option<Kind>);
 
 impl Called {
     pub fn at(nodes: &[Node], n: u16) -> Called {
-        Called(nodes.get(usize::from(n)).and_then(|node| Kind::try_from(node.kind).ok()))
+        Called(
+            nodes
+                .get(usize::from(n))
+                .and_then(|node| Kind::try_from(node.kind).ok()),
+        )
     }
 }
 

@@ -1,4 +1,4 @@
-use Rattle.std.proofs.Common.{ℕ, List, [], ◌∷◌, ◌++◌, string_bytes, codes, decimal, ap, ◌∙◌}
+use Rattle.std.proofs.Common.{List, [], ◌∷◌, ◌++◌, string_bytes, codes, decimal, ap, ◌∙◌}
 use Rattle.vocabulary.specs.declared.item.Item.{Item}
 use Rattle.planned.specs.Leaves.{items_text, filled_text, memory_text}
 use Rattle.planned.proofs.Gathering.{one-after-another}

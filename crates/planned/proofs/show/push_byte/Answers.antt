@@ -1,4 +1,4 @@
-use Rattle.std.proofs.Common.{◌≡◌, ℕ, false, cond, eqb, List, [], ◌∷◌, ◌++◌, string_bytes, sym, ap, ◌∙◌, append_assoc}
+use Rattle.std.proofs.Common.{◌≡◌, ℕ, false, cond, eqb, List, [], ◌∷◌, ◌++◌, string_bytes, ap, ◌∙◌, append_assoc}
 use lib.Utf8.{encode}
 use Rattle.std.proofs.lemmas.Bool.{ne_eqb}
 use Rattle.planned.proofs.show.push_byte.Goals as goal

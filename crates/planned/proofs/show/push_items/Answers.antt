@@ -1,4 +1,4 @@
-use Rattle.std.proofs.Common.{rules, ◌≡◌, ℕ, List, ◌∷◌, sym, ap, append-nil}
+use Rattle.std.proofs.Common.{rules, ℕ, List, ◌∷◌, sym, ap, append-nil}
 use Rattle.notation.specs.Lines.{item_word}
 use Rattle.planned.specs.Leaves.{item_behind}
 use Rattle.planned.proofs.show.push_items.Goals as goal

@@ -1,4 +1,4 @@
-use Rattle.std.proofs.Common.{rules, ◌≡◌, ℕ, List, ◌∷◌, sym, ap, append-nil}
+use Rattle.std.proofs.Common.{rules, ℕ, List, ◌∷◌, sym, ap, append-nil}
 use Rattle.ports.specs.Lines.{word_of}
 use Rattle.ports.specs.Records.{value_of}
 use Rattle.planned.specs.Leaves.{record_behind}
