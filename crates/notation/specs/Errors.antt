@@ -18,18 +18,19 @@ Misses wanted wrong e = (w : WordError) × (e ≡ Word wanted w) × wrong w
 abbrev pub TooMany : List ℕ → ReadError → Type 0
 TooMany rest e = (e ≡ TooManyWords) × (word rest ≢ [])
 
--- the only word of the rest is a number, or bytes
+-- the rest is to be one number of at most `most`
 abbrev pub NumberError : Wanted → ℕ → List ℕ → ReadError → Type 0
 NumberError wanted most rest e = TooMany (behind rest) e ⊎ Misses wanted (DigitsError (word rest) 0 most) e
 
+-- the rest is to be one word that gives bytes, for which memory may be wanting
 abbrev pub BytesError : Wanted → List ℕ → ReadError → Type 0
 BytesError wanted rest e = (e ≡ Memory) ⊎ TooMany (behind rest) e ⊎ Misses wanted (HexError (word rest)) e
 
--- three numbers
+-- the rest is to be start, step and count of a ramp
 abbrev pub RampError : List ℕ → ReadError → Type 0
 RampError rest e = Misses Start (SignedError (word rest)) e ⊎ Misses Step (SignedError (word (behind rest))) e ⊎ NumberError Count 65535 (behind (behind rest)) e
 
--- an item with this number
+-- the word is to be the item with this number: a fault whose code is 1 to 255, or else a reading
 abbrev pub ItemError : List ℕ → ℕ → ReadError → Type 0
 ItemError w number e =
     (((digits : List ℕ) → w ≢ codes "fault:" ++ digits) × Misses (Reading number) (SignedError w) e)
@@ -40,16 +41,17 @@ abbrev pub behind_words : ℕ → List ℕ → List ℕ
 behind_words zero line = line
 behind_words (suc n) line = behind (behind_words n line)
 
--- the item behind n words
+-- the rest is to be items, for which memory may be wanting
 abbrev pub TraceError : List ℕ → ReadError → Type 0
 TraceError rest e = (e ≡ Memory) ⊎ ((n : ℕ) × ItemError (word (behind_words n rest)) (n + 1) e)
 
--- what stands behind `feed`, and behind `strip`
+-- the rest stands behind `feed`
 abbrev pub FeedError : List ℕ → ReadError → Type 0
 FeedError rest e =
     ((word rest ≡ codes "trace") × TraceError (behind rest) e) ⊎ ((word rest ≡ codes "ramp") × RampError (behind rest) e)
     ⊎ ((e ≡ UnknownFeed) × (word rest ≢ codes "trace") × (word rest ≢ codes "ramp"))
 
+-- the rest stands behind `strip`
 abbrev pub StripError : List ℕ → ReadError → Type 0
 StripError rest e =
     ((word rest ≡ codes "records") × NumberError RecordCount 18446744073709551615 (behind rest) e) ⊎ ((word rest ≡ codes "text") × NumberError ByteCount 18446744073709551615 (behind rest) e)

@@ -22,6 +22,7 @@ hex_text (b ∷ bs) = hex_digits (b ∷ bs)
 abbrev pub Bytes : List ℕ → Type 0
 Bytes bs = AllByRecursion (λ b. b < 256) bs
 
+-- a byte that is a hex digit
 abbrev pub IsHexDigit : ℕ → Type 0
 IsHexDigit c = (d : ℕ) × (d < 16) × (hex_digit d ≡ c)
 
