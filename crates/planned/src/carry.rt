@@ -20,6 +20,7 @@ use vocabulary::refusal::Refusal;
 // What is done between a feed and a strip of any kind, and what it answers. It is no closure, since it is generic over both.
 pub trait Job {
     type Answer: Drop;
+
     type Error: From<AllocError> + Drop;
 
     // What work with this answer does, by the rules of the strip, between feed and strip before and after it.

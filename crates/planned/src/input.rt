@@ -1,8 +1,7 @@
 // The lines of a session on standard input.
 use crate::plan::Plan;
-use std::fmt;
-use std::io;
 use std::io::{BufRead, BufReader};
+use std::{fmt, io};
 
 // Reads all lines, each of which `take` takes in. Where one has no place, standard error is told its number and why, and
 // there is no plan.

@@ -23,6 +23,7 @@ struct SessionJob<'a, 'b> {
 
 impl Job for SessionJob<'_, '_> {
     type Answer = Vec<Answer>;
+
     type Error = AllocError;
 
     ghost does = { λ job answers rules before after. LawfulSession rules job.calls.now (vec_items answers) before after };

@@ -9,5 +9,5 @@ pub returns : goal.returns
 returns c =
     map_from_collect c.collect.result c.collect.ensures.ran
     (YieldsList-from_map_by _ call_said spoken_call
-      (YieldsList-at c.map.ensures.source (YieldsList-from_slice c.args.plans.now c.iter.ensures.rest))
-      c.map.ensures.closure (λ x r q k. search rules))
+    (YieldsList-at c.map.ensures.source (YieldsList-from_slice c.args.plans.now c.iter.ensures.rest))
+    c.map.ensures.closure (λ x r q k. search rules))
