@@ -1,5 +1,5 @@
-// What the calls answer, as C has it. A refusal's number and node are 0 where the call is accepted; everything else is 0 where
-// it is refused.
+// What the calls answer, as C has it: refusals, ends and codes are numbers here, since C reads them. A refusal's number and node are 0
+// where the call is accepted; everything else is 0 where it is refused.
 ghost use Rattle.std.specs.Prelude.{◌≡◌};
 ghost use Rattle.foreign.specs.Answers.{checked_of, written_of, outcome_of};
 

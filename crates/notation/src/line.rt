@@ -1,7 +1,7 @@
 // A line, read and written.
 ghost use Rattle.std.specs.Prelude.{◌≡◌, ◌↔◌, IfErr, IfOk, string_bytes, [], None};
 ghost use Rattle.notation.specs.Errors.{LineError};
-ghost use Rattle.notation.specs.Lines.{Reads, line_text, spoken};
+ghost use Rattle.notation.specs.Lines.{Reads, line_text, said};
 ghost use Rattle.notation.specs.Words.{Words, word, behind};
 
 use crate::error::ReadError;
@@ -23,9 +23,12 @@ pub fn read_line(heap: Global, line: &[u8]) -> Result<Option<Line>, ReadError>
     read_behind(heap, verb, rest).map(Some)
 }
 
-// The text of a line that plans this.
-pub fn line_text(heap: Global, line: &Line) -> Result<String, AllocError>
-    ensures { IfOk result (λ text. string_bytes text ≡ line_text (spoken line.now)) }
+// The text of a line that plans this; the line without words plans nothing.
+pub fn line_text(heap: Global, line: &Option<Line>) -> Result<String, AllocError>
+    ensures { IfOk result (λ text. string_bytes text ≡ line_text (said line.now)) }
 {
-    format!(in heap; "{line}")
+    match line {
+        Some(line) => format!(in heap; "{line}"),
+        None => Ok(String::new(heap)),
+    }
 }

@@ -14,7 +14,7 @@ use ports::strip::Strip;
 use session::{Answer, Call, session};
 use std::alloc::{AllocError, Global};
 
-// The calls of a session, and where its answers go.
+// The calls of a session, and the heap that its answers are put on.
 #[derive(Drop)]
 struct SessionJob<'a, 'b> {
     heap: Global,

@@ -4,7 +4,7 @@ ghost use Rattle.sequencer.specs.Model.{held};
 
 use crate::program::Program;
 use language::check::check_shape;
-use language::read::read_nodes;
+use language::read::read_table;
 use sheet::contents::Contents;
 use sheet::layout::HEADER;
 use sheet::open::{code_matches, frame};
@@ -17,7 +17,7 @@ impl Program {
     pub fn accept(table: &[u8]) -> Result<Program, Refusal>
         ensures { Accepts table.now result }
     {
-        let nodes = read_nodes(table)?;
+        let nodes = read_table(table)?;
         let shaped = check_shape(nodes.as_slice())?;
         let code = translate(shaped)?;
         Ok(Program { nodes, code })

@@ -9,7 +9,7 @@ use crate::write::{entries_match, write_entries, write_header};
 use vocabulary::code::Word;
 use vocabulary::refusal::{Cause, Refusal};
 
-// What `start` hands to `finish`: how many nodes it wrote, and where the code goes. Only `start` makes one, and `finish` spends it.
+// What `start` hands to `finish`: how many nodes it wrote, and where the code goes. Nobody else is given one, and `finish` spends it.
 #[derive(PartialEq, Eq, Debug, Drop)]
 pub struct HalfSheet {
     nodes: u16,

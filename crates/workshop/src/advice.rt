@@ -2,7 +2,7 @@
 use crate::visible::latest;
 use crate::words::{Called, Wanted};
 use language::kind::{Field, Kind, Rule, Sort};
-use language::read::read_nodes;
+use language::read::read_table;
 use language::rules::children;
 use std::alloc::{AllocError, Global};
 use vocabulary::node::Node;
@@ -131,7 +131,7 @@ fn nodes_advice(heap: Global, nodes: &[Node], refusal: Refusal) -> Result<String
 
 // A sentence on a refusal of a table.
 pub fn table_advice(heap: Global, table: &[u8], refusal: Refusal) -> Result<String, AllocError> {
-    match read_nodes(table) {
+    match read_table(table) {
         Ok(nodes) => nodes_advice(heap, nodes.as_slice(), refusal),
         Err(_length) => {
             let size = table.len();

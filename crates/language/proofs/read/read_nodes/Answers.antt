@@ -1,20 +1,18 @@
-use Rattle.std.proofs.Common.{◌≡◌, ◌/◌, ◌++◌, ◌∷◌, [], length, get_or, sym, ap, ◌∙◌, lit<, arith}
+use Rattle.std.proofs.Common.{◌≡◌, ◌/◌, ◌++◌, ◌∷◌, [], length, get_or, sym, ap, ◌∙◌, arith}
 use Rattle.language.specs.Table.{node_at}
-use Rattle.language.proofs.Filling.{length-nodes, fitting-count, nodes_none, nodes_more}
+use Rattle.language.proofs.Filling.{length-nodes, nodes_none, nodes_more}
 use Rattle.language.proofs.read.read_nodes.Goals as goal
 
 pub loop-bytes-init : goal.loop-bytes-init
-loop-bytes-init c = c.new-nodes.ensures ∙ sym (nodes_none c.args.table.now)
+loop-bytes-init g c = c.new-nodes.ensures ∙ sym (nodes_none c.args.table.now)
 
 pub push-requires : goal.push-requires
-push-requires c =
-    let table = c.args.table.now in
-    let size = fitting-count table (sym c.fits.ensures ∙ c.if-not-fits.false) in
-    let n : length c.loop-bytes.nodes ≡ c.loop-bytes.bytes-index = ap length c.loop-bytes.invariant ∙ length-nodes table c.loop-bytes.bytes-index in
-    (lit< tt, omega (arith, length-nodes table (length table / 8)))
+push-requires g c =
+    let n : length c.loop-bytes.nodes ≡ c.loop-bytes.bytes-index = ap length c.loop-bytes.invariant ∙ length-nodes c.args.table.now c.loop-bytes.bytes-index in
+    omega (arith, c.requires)
 
 pub loop-bytes-preserved : goal.loop-bytes-preserved
-loop-bytes-preserved c =
+loop-bytes-preserved g c =
     let table = c.args.table.now in
     let i = c.loop-bytes.bytes-index in
     let e = c.read_node.ensures ∙ ap (λ cs. node_at (get_or cs i []) 0) c.as_chunks.ensures.front in
