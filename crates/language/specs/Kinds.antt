@@ -29,7 +29,7 @@ kind_number Operation = 24
 kind_number FunctionCall = 25
 kind_number Choice = 26
 
--- a number read as a kind: the kind that has it, or an error where no kind has it, so that nothing is known of its fields
+-- a number read as a kind: the kind that has it, or an error where it is no kind's, so that the one table of rules has no row for it
 abbrev pub Decodes : ℕ → Result Kind UnknownKind → Type 0
 Decodes number r = MatchResult r (λ kind. kind_number kind ≡ number) (λ _. fields_of number ≡ None)
 
