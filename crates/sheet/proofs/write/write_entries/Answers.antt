@@ -1,5 +1,4 @@
-use Rattle.std.proofs.Common.{◌≡◌, length, ap, ◌∙◌, arith}
-use Rattle.std.proofs.lemmas.List.{take_all}
+use Rattle.std.proofs.Common.{ap, ◌∙◌}
 use Rattle.sheet.proofs.Entries.{write_step}
 use Rattle.sheet.proofs.write.write_entries.Goals as goal
 
