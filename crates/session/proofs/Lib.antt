@@ -1,5 +1,4 @@
 pub mod Grants
 pub mod Lawful
 pub mod Going
-pub mod Calling
 pub mod SoFar

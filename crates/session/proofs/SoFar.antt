@@ -32,9 +32,6 @@ module _ (R : Rules) where
     pub chained : Chained entry history o
     pub exact : OneByOne R fresh history m
 
-  pub none_yet : (answers : List Answer) (m : Model) (o : Ports) → answers ≡ [] → m ≡ fresh → SoFar [] answers o m o
-  none_yet answers m o e f = record { history = []; of_calls = refl; of_answers = sym e; chained = refl; exact = sym f }
-
   pub called : (calls : List Call) (i : ℕ) (default : Call) (answers answers' : List Answer) (entry : Ports) (m m' : Model) (o o' : Ports) (a : Answer) →
       i < length calls → Acted R (get_or calls i default) (scene m o) a (scene m' o') → answers' ≡ answers ++ (a ∷ []) →
       SoFar (take i calls) answers entry m o → SoFar (take (i + 1) calls) answers' entry m' o'

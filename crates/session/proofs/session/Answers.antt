@@ -1,15 +1,7 @@
-use Rattle.std.proofs.Common.{arith, rules}
+use Rattle.std.proofs.Common.{arith}
 use Rattle.agreement.proofs.Whole.{agreement}
-use Rattle.session.proofs.SoFar.{none_yet, called, all_called}
+use Rattle.session.proofs.SoFar.{called, all_called}
 use Rattle.session.proofs.session.Goals as goal
-
-pub loop-call-init : goal.loop-call-init
-loop-call-init g c = (
-  none_yet _ _ _ _ (search rules) c.new-sequencer.ensures,
-  search rules,
-  search rules,
-  g.S.Strip.stays _,
-)
 
 pub loop-call-preserved : goal.loop-call-preserved
 loop-call-preserved g c = (

@@ -1,5 +1,4 @@
-use Rattle.std.proofs.Common.{◌≡◌, length, ap, ◌∙◌, arith}
-use Rattle.std.proofs.lemmas.List.{take_all}
+use Rattle.std.proofs.Common.{ap, ◌∙◌}
 use Rattle.sheet.proofs.Entries.{write_step}
 use Rattle.sheet.proofs.write.write_entries.Goals as goal
 
@@ -8,9 +7,3 @@ loop-i-preserved g c =
     let m = g.T.Entry in
     write_step m.encoding m.eight c.args.entries.now c.args.tail.now c.loop-i.tail c.copy_from_slice.new.self c.loop-i.i c.index-entries-i.result c.loop-i-test.true c.loop-i.invariant
     (c.copy_from_slice.ensures.after ∙ (c.to_bytes-bytes.ensures ∙ ap m.encoding c.index-entries-i.is))
-
-pub returns : goal.returns
-returns g c =
-    let e : c.loop-i.i ≡ length c.args.entries.now = omega arith in
-    let t = take_all c.loop-i.i c.args.entries.now c.loop-i-test.false in
-    cc
