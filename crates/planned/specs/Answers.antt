@@ -1,5 +1,5 @@
 -- Answers as lines of text, in numbers.
-use Rattle.std.specs.Prelude.{ℕ, Bool, cond, List, [], ◌∷◌, ◌++◌, codes, decimal}
+use Rattle.std.specs.Prelude.{ℕ, cond, List, [], ◌∷◌, ◌++◌, codes, decimal}
 use Rattle.vocabulary.specs.Refusals.{cause_number}
 use Rattle.sequencer.specs.Reports.{has_ended, end_in, node_in, code_in}
 use Rattle.session.specs.declared.Answer.{Answer}

@@ -1,5 +1,5 @@
 -- What a session leaves, as lines of text.
-use Rattle.std.specs.Prelude.{ℕ, Bool, true, false, cond, List, [], ◌∷◌, ◌++◌, length, vec_items, codes, decimal, ◌==◌}
+use Rattle.std.specs.Prelude.{ℕ, Bool, true, cond, List, [], ◌∷◌, ◌++◌, length, vec_items, codes, decimal, ◌==◌}
 use Rattle.std.proofs.Math.Utf8.{encode}
 use Rattle.vocabulary.specs.declared.item.Item.{Item}
 use Rattle.ports.specs.declared.records.OutRecord.{OutRecord}

@@ -1,18 +1,20 @@
 // A whole session: its calls are carried out by the one call whose contract has the law of takes.
-ghost use Rattle.std.specs.Prelude.{◌≡◌, IfOk, map, vec_items};
+ghost use Rattle.std.specs.Prelude.{◌≡◌, ℕ, List, [], ◌∷◌, ◌++◌, Some, IfOk, map, string_bytes, vec_items};
 ghost use Rattle.notation.specs.Lines.{spoken_call};
 ghost use Rattle.session.specs.Law.{Session as LawfulSession};
+ghost use Rattle.session.specs.declared.Answer.{Answer as SessionAnswer};
 ghost use Rattle.planned.specs.Carried.{Carried};
-ghost use Rattle.planned.specs.Sessions.{Answers, call_said};
+ghost use Rattle.planned.specs.Sessions.{Answers, Printed, call_said};
 
 use crate::carry::{CarryError, Job, Outcome, carry_out};
 use crate::plan::Session;
-use crate::show::{InNumbers, left_text};
+use crate::show::{InNumbers, left_text, push_each};
 use notation::plan::CallPlan;
 use ports::feed::Feed;
 use ports::strip::Strip;
 use session::{Answer, Call, session};
 use std::alloc::{AllocError, Global};
+use std::fmt;
 
 // The calls of a session, and the heap that its answers are put on.
 #[derive(Drop)]
@@ -75,17 +77,20 @@ pub fn carry_out_session(
     carry_out(heap, &job, &session.feed, session.strip)
 }
 
-// What a session prints: its answers, as `answers` writes them, and what it leaves; or the refusal of its ramp alone.
-pub fn session_text<F: FnOnce(Global, &[Answer]) -> Result<String, AllocError>>(
+// What a session prints: each answer as `shown` shows it, a line each, and then what the session leaves; or the refusal of its ramp
+// alone.
+pub fn session_text<D: fmt::Display + Drop, F: Fn(Answer) -> D>(
     heap: Global,
     session: &Session,
-    answers: F,
+    shown: F,
 ) -> Result<String, AllocError>
-    requires { F.IsAlwaysCallable answers }
+    requires { F.IsAlwaysCallable shown }
+    ensures { (piece : SessionAnswer → List ℕ) → ((a : SessionAnswer) (d : D) → F.post shown a d → (word : List ℕ) × (D.output d ≡ Some word) × (piece a ≡ word ++ (10 ∷ []))) → IfOk result (λ text. Printed piece session.now (string_bytes text)) }
 {
     match carry_out_session(heap, session) {
         Ok(outcome) => {
-            let mut text = answers(heap, outcome.answer.as_slice())?;
+            let mut text = String::new(heap);
+            push_each(&mut text, outcome.answer.as_slice(), "", shown, "\n")?;
             let left = left_text(heap, &outcome.left)?;
             text.push_str(left.as_str())?;
             Ok(text)

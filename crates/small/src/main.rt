@@ -7,7 +7,7 @@ mod sessions;
 use anyhow::anyhow;
 use listing::print_page;
 use planned::demonstration::demonstrate;
-use planned::show::{answers_in_numbers, answers_in_words};
+use planned::show::InNumbers;
 use sessions::run_session;
 use std::env;
 use std::process::ExitCode;
@@ -26,8 +26,8 @@ a session, '#' begins a comment:
 fn command(rt: &HostRuntime, words: &[&str]) -> anyhow::Result<()> {
     match words {
         [] => demonstrate(rt, print_page),
-        ["session"] => run_session(rt, answers_in_numbers),
-        ["session", "--words"] => run_session(rt, answers_in_words),
+        ["session"] => run_session(rt, InNumbers),
+        ["session", "--words"] => run_session(rt, |answer| answer),
         ["help"] => Ok(rt.println(USAGE)?),
         _ => {
             rt.eprintln("error: no such command")?;

@@ -5,7 +5,8 @@ use planned::plan::{Plan, PlanError};
 use planned::whole::session_text;
 use script::read::{line_of, words_of};
 use session::Answer;
-use std::alloc::{AllocError, Global};
+use std::alloc::Global;
+use std::fmt;
 
 // Takes in a line of text.
 fn take(heap: Global, plan: &mut Plan, text: &str) -> anyhow::Result<()> {
@@ -21,12 +22,12 @@ fn take(heap: Global, plan: &mut Plan, text: &str) -> anyhow::Result<()> {
     })
 }
 
-// The answers are printed as `answers` writes them.
-pub fn run_session<F: FnOnce(Global, &[Answer]) -> Result<String, AllocError>>(
+// Each answer is printed as `shown` shows it.
+pub fn run_session<D: fmt::Display + Drop, F: Fn(Answer) -> D>(
     rt: &HostRuntime,
-    answers: F,
+    shown: F,
 ) -> anyhow::Result<()>
-    requires { F.IsAlwaysCallable answers }
+    requires { F.IsAlwaysCallable shown }
 {
     let heap = rt.alloc();
     let Some(plan) = read_plan(rt, |plan, text| take(heap, plan, text))? else {
@@ -36,6 +37,6 @@ pub fn run_session<F: FnOnce(Global, &[Answer]) -> Result<String, AllocError>>(
         rt.eprintln("error: a session has a feed line and a strip line")?;
         return Err(anyhow!("a session has a feed line and a strip line"));
     };
-    rt.print(session_text(heap, &session, answers)?)?;
+    rt.print(session_text(heap, &session, shown)?)?;
     Ok(())
 }

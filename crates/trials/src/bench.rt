@@ -57,7 +57,9 @@ impl Bench {
         call: &CallPlan,
         feed: &mut F,
         strip: &mut S,
-    ) -> Answer {
+    ) -> Answer
+        ensures kept { S.Strip.keeps strip.old strip.new }
+    {
         match call {
             CallPlan::Load(table) => self.sequencer.load(table.as_slice()).into(),
             CallPlan::Open(sheet) => self.sequencer.open(sheet.as_slice()).into(),
@@ -74,7 +76,9 @@ impl Bench {
         step: &Step,
         feed: &mut F,
         strip: &mut S,
-    ) -> anyhow::Result<()> {
+    ) -> anyhow::Result<()>
+        ensures kept { S.Strip.keeps strip.old strip.new }
+    {
         match step {
             Step::Call(call) => rt.println(InNumbers(self.answer(call, feed, strip)))?,
             Step::Code => print_code(rt, self.sequencer.code())?,

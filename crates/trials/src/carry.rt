@@ -3,7 +3,7 @@ use crate::bench::Bench;
 use crate::plan::{Step, Trial, Work};
 use planned::carry::{CarryError, Job, carry_out};
 use planned::plan::Session;
-use planned::show::{InNumbers, answers_in_numbers, left_text};
+use planned::show::{InNumbers, left_text};
 use planned::whole::session_text;
 use ports::feed::Feed;
 use ports::strip::Strip;
@@ -46,7 +46,7 @@ pub fn carry_out_trial(rt: &HostRuntime, trial: Trial) -> anyhow::Result<()> {
         Work::Steps(steps) => steps,
         Work::Session(calls) => {
             let session = Session { feed, strip, calls };
-            rt.print(session_text(rt.alloc(), &session, answers_in_numbers)?)?;
+            rt.print(session_text(rt.alloc(), &session, InNumbers)?)?;
             return Ok(());
         }
     };

@@ -19,7 +19,7 @@ use archive::write_sheet_of;
 use files::Form;
 use list::{list, print_page};
 use planned::demonstration::demonstrate;
-use planned::show::{answers_in_numbers, answers_in_words};
+use planned::show::InNumbers;
 use run::run;
 use sessions::run_session;
 use std::env;
@@ -59,8 +59,8 @@ fn carry_out(rt: &HostRuntime, words: &[&str]) -> Result<(), Stop> {
         ["sheet", table, sheet] => write_sheet_of(rt, *table, *sheet),
         ["open", sheet] => judge(rt, *sheet, Form::Sheet),
         ["run", file, options @ ..] => run(rt, *file, options),
-        ["session"] => run_session(rt, answers_in_numbers),
-        ["session", "--words"] => run_session(rt, answers_in_words),
+        ["session"] => run_session(rt, InNumbers),
+        ["session", "--words"] => run_session(rt, |answer| answer),
         ["help"] | ["--help"] | ["-h"] => Ok(rt.println(USAGE)?),
         [command, ..] => {
             let word = *command;

@@ -3,14 +3,14 @@ use crate::stop::{Stop, stopped};
 use planned::input::read_plan;
 use planned::whole::session_text;
 use session::Answer;
-use std::alloc::{AllocError, Global};
+use std::fmt;
 
-// The answers are printed as `answers` writes them.
-pub fn run_session<F: FnOnce(Global, &[Answer]) -> Result<String, AllocError>>(
+// Each answer is printed as `shown` shows it.
+pub fn run_session<D: fmt::Display + Drop, F: Fn(Answer) -> D>(
     rt: &HostRuntime,
-    answers: F,
+    shown: F,
 ) -> Result<(), Stop>
-    requires { F.IsAlwaysCallable answers }
+    requires { F.IsAlwaysCallable shown }
 {
     let heap = rt.alloc();
     let Some(plan) = read_plan(rt, |plan, text| plan.read(heap, text.as_bytes()))? else {
@@ -22,6 +22,6 @@ pub fn run_session<F: FnOnce(Global, &[Answer]) -> Result<String, AllocError>>(
             "a session has a feed line and a strip line, before its calls",
         );
     };
-    rt.print(session_text(heap, &session, answers)?)?;
+    rt.print(session_text(heap, &session, shown)?)?;
     Ok(())
 }
