@@ -52,12 +52,7 @@ impl Bench {
     }
 
     // Carries out a call of the sequencer.
-    fn answer<F: Feed, S: Strip>(
-        &mut self,
-        call: &CallPlan,
-        feed: &mut F,
-        strip: &mut S,
-    ) -> Answer
+    fn answer<F: Feed, S: Strip>(&mut self, call: &CallPlan, feed: &mut F, strip: &mut S) -> Answer
         ensures kept { S.Strip.keeps strip.old strip.new }
     {
         match call {
