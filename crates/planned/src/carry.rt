@@ -44,6 +44,7 @@ pub enum CarryError<E> {
     Failed(E),
 }
 
+// `From` by hand: the one that thiserror writes has no contract, and the clauses tell the errors apart.
 impl<E> From<Refusal> for CarryError<E> {
     ghost from_gives = { λ refusal e. e ≡ Refused refusal };
 

@@ -3,10 +3,9 @@ use ports::feed::Feed;
 use ports::strip::Strip;
 use ports::text::TextStrip;
 use ports::trace::{Record, Trace};
-use sequencer::report::Report;
 use sequencer::state::Sequencer;
+use session::Answer;
 use std::io;
-use vocabulary::refusal::Refusal;
 
 // variable 1 is 2; while 0 < 1: output 1, then 1 := 1 - one.
 const COUNTDOWN: [u8; 120] = [
@@ -31,13 +30,6 @@ const COUNTDOWN: [u8; 120] = [
     5, 0, 1, 0, 13, 0, 0, 0,
 ];
 
-fn print_answer(rt: &HostRuntime, call: &str, answer: Result<Report, Refusal>) -> io::Result<()> {
-    match answer {
-        Ok(report) => println!(rt; "{call}: {report}"),
-        Err(refusal) => println!(rt; "{call}: {refusal}"),
-    }
-}
-
 // Runs what is loaded, first with one step's fuel too little, and then to its end.
 fn run_in_two<F: Feed, S: Strip>(
     rt: &HostRuntime,
@@ -45,9 +37,9 @@ fn run_in_two<F: Feed, S: Strip>(
     feed: &mut F,
     strip: &mut S,
 ) -> io::Result<()> {
-    print_answer(rt, "run 52", sequencer.run(52, feed, strip))?;
-    print_answer(rt, "run 1", sequencer.run(1, feed, strip))?;
-    print_answer(rt, "report", sequencer.report())
+    println!(rt; "run 52: {}", Answer::from(sequencer.run(52, feed, strip)))?;
+    println!(rt; "run 1: {}", Answer::from(sequencer.run(1, feed, strip)))?;
+    println!(rt; "report: {}", Answer::from(sequencer.report()))
 }
 
 // Shows the countdown; the program that was loaded is listed as `list` prints it.

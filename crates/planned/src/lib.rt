@@ -7,4 +7,6 @@ pub mod demonstration;
 pub mod input;
 pub mod plan;
 pub mod show;
+#[cfg(test)]
+mod tests;
 pub mod whole;

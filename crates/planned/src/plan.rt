@@ -42,6 +42,7 @@ pub enum PlanError {
     CallTooEarly,
 }
 
+// `From` by hand: the one that thiserror writes has no contract, and the clauses tell the errors apart.
 impl From<ReadError> for PlanError {
     ghost from_gives = { λ error e. e ≡ BadLine error };
 
@@ -118,9 +119,10 @@ impl Plan {
         ensures { Finishes (planned self) result }
     {
         let Plan { feed, strip, calls } = self;
-        match (feed, strip) {
-            (Some(feed), Some(strip)) => Some(Session { feed, strip, calls }),
-            _ => None,
-        }
+        Some(Session {
+            feed: feed?,
+            strip: strip?,
+            calls,
+        })
     }
 }

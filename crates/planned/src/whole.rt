@@ -66,10 +66,7 @@ pub fn carry_out_session(
 ) -> Result<Outcome<Vec<Answer>>, CarryError<AllocError>>
     ensures { Carried (λ answers before after. Answers session.now (vec_items answers) before after) session.now.feed session.now.strip result }
 {
-    let calls = match lend(heap, session.calls.as_slice()) {
-        Ok(calls) => calls,
-        Err(error) => return Err(CarryError::Failed(error)),
-    };
+    let calls = lend(heap, session.calls.as_slice()).map_err(CarryError::Failed)?;
     let job = SessionJob {
         heap,
         calls: calls.as_slice(),

@@ -1,4 +1,5 @@
-// A program on one page: its tree, and its code.
+// A program on one page: its tree, and its code. It stands beside the crate `listing` since `small` prints as it always has: the page
+// of `listing` has other columns and other lines.
 use language::form::Form;
 use language::rules::children;
 use sequencer::state::Sequencer;
@@ -8,14 +9,11 @@ use vocabulary::node::Node;
 
 // Prints node `n` and, indented, the trees of its children. A child is lower than its parent in every accepted table; the
 // test makes the listing end for any other.
-fn print_node(rt: &HostRuntime, nodes: &[Node], n: usize, depth: usize) -> io::Result<()> {
+fn print_node(rt: &HostRuntime, nodes: &[Node], n: usize, indent: usize) -> io::Result<()> {
     let Some(node) = nodes.get(n) else {
         return Ok(());
     };
-    print!(rt; "{n:>3}  ")?;
-    for _ in 0..depth {
-        print!(rt; "  ")?;
-    }
+    print!(rt; "{n:>3}  {:indent$}", "")?;
     match Form::try_from(*node) {
         Ok(form) => println!(rt; "{form}")?,
         Err(_unknown) => rt.println("unknown")?,
@@ -23,7 +21,7 @@ fn print_node(rt: &HostRuntime, nodes: &[Node], n: usize, depth: usize) -> io::R
     for child in children(*node).as_slice() {
         let child = usize::from(child.number);
         if child < n {
-            print_node(rt, nodes, child, depth.saturating_add(1))?;
+            print_node(rt, nodes, child, indent.saturating_add(2))?;
         }
     }
     Ok(())

@@ -40,10 +40,10 @@ fn command(rt: &HostRuntime, words: &[&str]) -> anyhow::Result<()> {
 // What stopped a command was said where it was met, so an error gives a status and no second message.
 fn main(rt: HostRuntime) -> anyhow::Result<ExitCode> {
     let given: Vec<String> = env::args(&rt)?.skip(1).collect(rt.alloc())?;
-    let mut words = Vec::new(rt.alloc());
-    for word in given.as_slice() {
-        words.push(word.as_str())?;
-    }
+    let words = given
+        .iter()
+        .map(|word| word.as_str())
+        .collect::<Vec<&str>>(rt.alloc())?;
     match command(&rt, words.as_slice()) {
         Ok(()) => Ok(ExitCode::SUCCESS),
         Err(_said) => Ok(ExitCode::FAILURE),

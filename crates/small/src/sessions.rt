@@ -1,6 +1,6 @@
 // A session from standard input: all of it is read before anything is carried out.
 use anyhow::anyhow;
-use planned::input::read_plan;
+use planned::input::read_session;
 use planned::plan::{Plan, PlanError};
 use planned::whole::session_text;
 use script::read::{line_of, words_of};
@@ -8,7 +8,7 @@ use session::Answer;
 use std::alloc::Global;
 use std::fmt;
 
-// Takes in a line of text.
+// Takes in a line of text. `small` says of a second feed or strip what it always has, in other words than the plan.
 fn take(heap: Global, plan: &mut Plan, text: &str) -> anyhow::Result<()> {
     let words = words_of(heap, text)?;
     if words.is_empty() {
@@ -30,13 +30,12 @@ pub fn run_session<D: fmt::Display + Drop, F: Fn(Answer) -> D>(
     requires { F.IsAlwaysCallable shown }
 {
     let heap = rt.alloc();
-    let Some(plan) = read_plan(rt, |plan, text| take(heap, plan, text))? else {
-        return Err(anyhow!("a line has no place in a session"));
-    };
-    let Some(session) = plan.finish() else {
-        rt.eprintln("error: a session has a feed line and a strip line")?;
-        return Err(anyhow!("a session has a feed line and a strip line"));
-    };
+    let session = read_session(
+        rt,
+        |plan, text| take(heap, plan, text),
+        "error: a session has a feed line and a strip line",
+    )?
+    .ok_or(anyhow!("there is no session"))?;
     rt.print(session_text(heap, &session, shown)?)?;
     Ok(())
 }

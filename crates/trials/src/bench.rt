@@ -51,7 +51,7 @@ impl Bench {
         }
     }
 
-    // Carries out a call of the sequencer.
+    // Carries out a call of the sequencer. The trials try the single calls, so they do not go through `session`, whose `act` is private.
     fn answer<F: Feed, S: Strip>(&mut self, call: &CallPlan, feed: &mut F, strip: &mut S) -> Answer
         ensures kept { S.Strip.keeps strip.old strip.new }
     {
@@ -109,7 +109,8 @@ impl Bench {
         opened.is_err()
     }
 
-    // Prints how many of the sheets that differ from this one in one byte are refused, and how many there are.
+    // Prints how many of the sheets that differ from this one in one byte are refused, and how many there are. Two ranges, since the
+    // same copy is changed at a place and changed back: an iterator over its bytes would hold it.
     fn flips(&mut self, rt: &HostRuntime, sheet: &[u8]) -> anyhow::Result<()> {
         let mut copy = sheet.to_vec(rt.alloc())?;
         let mut refused = 0usize;

@@ -34,14 +34,13 @@ impl Job for Steps<'_> {
 }
 
 pub fn carry_out_trial(rt: &HostRuntime, trial: Trial) -> anyhow::Result<()> {
-    let word = trial.work.word();
     let Trial {
         name,
         feed,
         strip,
         work,
     } = trial;
-    println!(rt; "{word} {name}")?;
+    println!(rt; "{work} {name}")?;
     let steps = match work {
         Work::Steps(steps) => steps,
         Work::Session(calls) => {

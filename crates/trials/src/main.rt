@@ -12,8 +12,8 @@ mod show;
 use anyhow::anyhow;
 use carry::carry_out_trial;
 use plan::Trial;
+use planned::input::{Untaken, take_lines};
 use read::{Said, read_line};
-use std::io::{BufRead, BufReader};
 
 fn begun(trial: &mut Option<Trial>) -> anyhow::Result<&mut Trial> {
     trial.as_mut().ok_or(anyhow!("no trial has begun"))
@@ -40,16 +40,17 @@ fn finish(rt: &HostRuntime, trial: Option<Trial>) -> anyhow::Result<()> {
 
 fn run(rt: &HostRuntime) -> anyhow::Result<()> {
     let mut trial = None;
-    for (place, text) in BufReader::new(rt.alloc(), rt.stdin())?
-        .lines(rt.alloc())
-        .enumerate()
+    let untaken = take_lines(rt, &mut trial, |trial, text| take_line(rt, trial, text))?;
+    if let Some(
+        Untaken {
+            number,
+            text,
+            error,
+        },
+    ) = untaken
     {
-        let text = text?;
-        if let Err(error) = take_line(rt, &mut trial, text.as_str()) {
-            let number = place.saturating_add(1);
-            eprintln!(rt; "trials: cannot take line {number}: {text}")?;
-            return Err(error);
-        }
+        eprintln!(rt; "trials: cannot take line {number}: {text}")?;
+        return Err(error);
     }
     finish(rt, trial)
 }

@@ -2,8 +2,10 @@
 use anyhow::anyhow;
 use notation::plan::{CallPlan, FeedPlan, Line, StripPlan};
 use std::alloc::Global;
+use std::fmt;
 
-// What is asked of the sequencer, and of the memory that sheets are written to.
+// What is asked of the sequencer, and of the memory that sheets are written to. No table of functions: each step is read from text,
+// and takes what stands behind its word.
 #[derive(Drop)]
 pub enum Step {
     Call(CallPlan),
@@ -31,13 +33,13 @@ pub enum Work {
     Session(Vec<CallPlan>),
 }
 
-impl Work {
-    // The word that begins such a trial.
-    pub fn word(&self) -> &'static str {
-        match self {
+// The word that begins such a trial.
+impl fmt::Display for Work {
+    fn fmt<W: fmt::Write>(&self, f: &mut fmt::Formatter<W>) -> fmt::Result {
+        f.write_str(match self {
             Work::Steps(_) => "trial",
             Work::Session(_) => "session",
-        }
+        })
     }
 }
 

@@ -7,9 +7,9 @@ use vocabulary::node::Node;
 
 // A word as opcode, node and operand.
 #[derive(Clone, Copy)]
-struct InNumbers(Word);
+struct WordInNumbers(Word);
 
-impl fmt::Display for InNumbers {
+impl fmt::Display for WordInNumbers {
     fn fmt<W: fmt::Write>(&self, f: &mut fmt::Formatter<W>) -> fmt::Result {
         let opcode = self.0.instruction.opcode();
         let node = self.0.node;
@@ -21,7 +21,7 @@ impl fmt::Display for InNumbers {
 // Each word in numbers.
 pub fn print_code(rt: &HostRuntime, code: &[Word]) -> io::Result<()> {
     let mut text = String::from_str(rt.alloc(), "code")?;
-    push_each(&mut text, code, " ", InNumbers, "")?;
+    push_each(&mut text, code, " ", WordInNumbers, "")?;
     rt.println(text)
 }
 

@@ -74,10 +74,10 @@ fn carry_out(rt: &HostRuntime, words: &[&str]) -> Result<(), Stop> {
 
 fn main(rt: HostRuntime) -> anyhow::Result<ExitCode> {
     let given: Vec<String> = env::args(&rt)?.skip(1).collect(rt.alloc())?;
-    let mut words = Vec::new(rt.alloc());
-    for word in given.as_slice() {
-        words.push(word.as_str())?;
-    }
+    let words = given
+        .iter()
+        .map(|word| word.as_str())
+        .collect::<Vec<&str>>(rt.alloc())?;
     match carry_out(&rt, words.as_slice()) {
         Ok(()) => Ok(ExitCode::SUCCESS),
         Err(stop) => {

@@ -1,6 +1,6 @@
 // `workshop session`: a session from standard input, all of which is read before anything is carried out.
-use crate::stop::{Stop, stopped};
-use planned::input::read_plan;
+use crate::stop::Stop;
+use planned::input::read_session;
 use planned::whole::session_text;
 use session::Answer;
 use std::fmt;
@@ -13,15 +13,12 @@ pub fn run_session<D: fmt::Display + Drop, F: Fn(Answer) -> D>(
     requires { F.IsAlwaysCallable shown }
 {
     let heap = rt.alloc();
-    let Some(plan) = read_plan(rt, |plan, text| plan.read(heap, text.as_bytes()))? else {
-        return Err(Stop::Told);
-    };
-    let Some(session) = plan.finish() else {
-        return stopped(
-            rt,
-            "a session has a feed line and a strip line, before its calls",
-        );
-    };
+    let session = read_session(
+        rt,
+        |plan, text| plan.read(heap, text.as_bytes()),
+        "workshop: a session has a feed line and a strip line, before its calls",
+    )?
+    .ok_or(Stop::Told)?;
     rt.print(session_text(heap, &session, shown)?)?;
     Ok(())
 }

@@ -1,0 +1,58 @@
+// Whole sessions, from their lines to what they print.
+use crate::plan::Plan;
+use crate::show::InNumbers;
+use crate::whole::session_text;
+use session::Answer;
+use std::fmt;
+use std::test::Fail;
+
+// The text of the session that these lines plan.
+fn text_of<D: fmt::Display + Drop, F: Fn(Answer) -> D>(
+    rt: &HostRuntime,
+    lines: &[&str],
+    shown: F,
+) -> Result<String, Fail>
+    requires { F.IsAlwaysCallable shown }
+{
+    let mut plan = Plan::new(rt.alloc());
+    for line in lines {
+        plan.read(rt.alloc(), line.as_bytes())?;
+    }
+    let session = plan.finish().ok_or("feed or strip is wanting")?;
+    Ok(session_text(rt.alloc(), &session, shown)?)
+}
+
+// The README's session, of a table that puts 7.
+#[test]
+fn puts_seven(rt: HostRuntime) -> Result<(), Fail> {
+    let lines = [
+        "feed trace 5",
+        "strip text 16",
+        "load 14000000070000000200000000000000",
+        "run 3",
+        "run 1",
+    ];
+    assert_eq!(rt;
+        text_of(&rt, &lines, |answer| answer)?.as_str(),
+        "done
+not ended after 3 steps
+ended after 4 steps with end 0 at node 1: the program is done
+feed 5
+held 7
+space 14
+text 370a
+"
+    );
+    Ok(())
+}
+
+// A ramp that nobody reads, and a call that is refused.
+#[test]
+fn leaves_a_ramp(rt: HostRuntime) -> Result<(), Fail> {
+    let lines = ["feed ramp 1 2 3", "strip records 4", "report"];
+    assert_eq!(rt;
+        text_of(&rt, &lines, InNumbers)?.as_str(),
+        "refused 1 0\nfeed 1 3 5\nheld\nspace 4\n"
+    );
+    Ok(())
+}
