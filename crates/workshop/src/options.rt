@@ -33,8 +33,7 @@ pub fn options_in<'a>(rt: &HostRuntime, words: &[&'a str]) -> Result<Options<'a>
         as_session: false,
     };
     let mut rest = words;
-    // the label is its name in the proof that it ends
-    'words: loop {
+    loop {
         rest = match rest {
             [] => return Ok(options),
             ["--session", more @ ..] => {

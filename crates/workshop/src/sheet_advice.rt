@@ -25,6 +25,7 @@ impl Number {
     }
 }
 
+// The counts that a header gives, right or not: sheet's own `frame` gives right ones alone.
 fn counts_in(header: Header) -> Counts {
     Counts {
         nodes: header.nodes,
