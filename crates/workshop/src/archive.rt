@@ -1,12 +1,13 @@
 // `workshop sheet`: writes the archive sheet of a table.
 use crate::files::{Form, Given, read_file};
 use crate::stop::{Stop, stopped};
-use crate::verdict::Size;
+use crate::verdict::{InWords, counts_of};
 use sequencer::state::Sequencer;
+use sheet::layout::{ENTRY, HEADER};
 use std::fs;
 
-// More than any sheet has: 16 bytes, and 8 for each of 512 nodes and 1537 words.
-const ROOM: usize = 16408;
+// No sheet has more: a program has at most 512 nodes and 1537 code words.
+const ROOM: usize = HEADER + ENTRY * (512 + 1537);
 
 // The sheet of the program that is loaded.
 fn sheet_bytes(rt: &HostRuntime, sequencer: &Sequencer) -> Result<Vec<u8>, Stop> {
@@ -16,19 +17,22 @@ fn sheet_bytes(rt: &HostRuntime, sequencer: &Sequencer) -> Result<Vec<u8>, Stop>
             memory.truncate(length);
             Ok(memory)
         }
-        Err(refusal) => Err(Stop::Message(format!(in rt.alloc(); "{refusal}")?)),
+        Err(refusal) => stopped(rt, refusal),
     }
 }
 
 // Writes a file, unless there is one with other bytes: an archive loses no sheet to another.
 fn write_new(rt: &HostRuntime, path: &str, bytes: &[u8]) -> Result<(), Stop> {
     if fs::exists(rt, path)? && read_file(rt, path)?.as_slice() != bytes {
-        return Err(Stop::Message(format!(in rt.alloc();
-            "{path} is there already, with other bytes; nothing was written. Give another name, or remove it first"
-        )?));
+        return stopped(
+            rt,
+            format_args!(
+                "{path} is there already, with other bytes; nothing was written. Give another name, or remove it first"
+            ),
+        );
     }
     if let Err(error) = fs::write(rt, path, bytes) {
-        return Err(Stop::Message(format!(in rt.alloc(); "cannot write {path}: {error}")?));
+        return stopped(rt, format_args!("cannot write {path}: {error}"));
     }
     if read_file(rt, path)?.as_slice() != bytes {
         return stopped(
@@ -44,7 +48,7 @@ pub fn write_sheet_of(rt: &HostRuntime, table: &str, sheet: &str) -> Result<(), 
     Given::read_as(rt, table, Form::Table)?.accept(rt, &mut sequencer)?;
     let written = sheet_bytes(rt, &sequencer)?;
     write_new(rt, sheet, written.as_slice())?;
-    let counts = Size::of(&sequencer);
+    let counts = InWords(counts_of(&sequencer));
     let size = written.len();
     println!(rt; "written: {sheet}, {size} bytes: {counts}")?;
     Ok(())

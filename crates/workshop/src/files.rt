@@ -1,7 +1,7 @@
 // Tables and sheets in files.
 use crate::advice::table_advice;
 use crate::sheet_advice::sheet_advice;
-use crate::stop::Stop;
+use crate::stop::{Stop, stopped};
 use notation::plan::CallPlan;
 use sequencer::state::Sequencer;
 use std::alloc::{AllocError, Global};
@@ -24,10 +24,10 @@ impl fmt::Display for Form {
     }
 }
 
-// What bytes begin as. A sheet begins with 1 and has 16 in its fourth field. No accepted table begins so: its first node would
-// be an assignment with something in field c.
-impl From<&[u8]> for Form {
-    fn from(bytes: &[u8]) -> Form {
+impl Form {
+    // What bytes begin as. A sheet begins with 1 and has 16 in its fourth field. No accepted table begins so: its first node
+    // would be an assignment with something in field c.
+    pub fn begun_as(bytes: &[u8]) -> Form {
         match bytes {
             [1, 0, _, _, _, _, 16, 0, ..] => Form::Sheet,
             _ => Form::Table,
@@ -46,7 +46,7 @@ pub struct Given<'a> {
 pub fn read_file(rt: &HostRuntime, path: &str) -> Result<Vec<u8>, Stop> {
     match fs::read(rt, path) {
         Ok(bytes) => Ok(bytes),
-        Err(error) => Err(Stop::Message(format!(in rt.alloc(); "cannot read {path}: {error}")?)),
+        Err(error) => stopped(rt, format_args!("cannot read {path}: {error}")),
     }
 }
 
@@ -56,7 +56,7 @@ impl<'a> Given<'a> {
         let bytes = read_file(rt, path)?;
         Ok(Given {
             path,
-            form: Form::from(bytes.as_slice()),
+            form: Form::begun_as(bytes.as_slice()),
             bytes,
         })
     }
@@ -83,13 +83,16 @@ impl<'a> Given<'a> {
         }
     }
 
-    // A refusal and what it is about, in two lines.
+    // A refusal and what it is about, in two lines; the second is empty where nothing is known.
     pub fn refusal_text(&self, heap: Global, refusal: Refusal) -> Result<String, AllocError> {
         let advice = match self.form {
-            Form::Table => table_advice(heap, self.bytes.as_slice(), refusal)?,
+            Form::Table => Some(table_advice(heap, self.bytes.as_slice(), refusal)?),
             Form::Sheet => sheet_advice(heap, self.bytes.as_slice(), refusal)?,
         };
-        format!(in heap; "{refusal}\n{advice}")
+        match advice {
+            Some(advice) => format!(in heap; "{refusal}\n{advice}"),
+            None => format!(in heap; "{refusal}\n"),
+        }
     }
 
     // Has the bytes loaded or opened; a refusal stops the command, with words for standard error.
@@ -100,8 +103,11 @@ impl<'a> Given<'a> {
         let words = self.refusal_text(rt.alloc(), refusal)?;
         let path = self.path;
         let taken = self.form;
-        Err(Stop::Message(format!(in rt.alloc();
-            "{path} is neither a table nor a sheet that is accepted. As a {taken}: {words}"
-        )?))
+        stopped(
+            rt,
+            format_args!(
+                "{path} is neither a table nor a sheet that is accepted. As a {taken}: {words}"
+            ),
+        )
     }
 }

@@ -1,6 +1,6 @@
 // `workshop list`: tree and code of a table or a sheet on one page.
 use crate::files::Given;
-use crate::stop::Stop;
+use crate::stop::{Stop, stopped};
 use listing::listing;
 use sequencer::state::Sequencer;
 
@@ -8,7 +8,7 @@ use sequencer::state::Sequencer;
 pub fn print_page(rt: &HostRuntime, sequencer: &Sequencer) -> Result<(), Stop> {
     match listing(rt.alloc(), sequencer.nodes(), sequencer.code()) {
         Ok(page) => Ok(rt.print(page)?),
-        Err(error) => Err(Stop::Message(format!(in rt.alloc(); "{error}")?)),
+        Err(error) => stopped(rt, error),
     }
 }
 

@@ -1,4 +1,4 @@
-// The options of `workshop run`.
+// The options of `workshop run`. By hand, since the library `clap` refuses a word in other words than these, which users know.
 use crate::stop::{Stop, stopped};
 use notation::line::read_line;
 use notation::plan::{FeedPlan, Line, StripPlan};
@@ -10,15 +10,17 @@ pub struct Options<'a> {
     pub feed: &'a str,
     pub strip: &'a str,
     pub fuel: u32,
+    // no enum: the one option without a value, and it is given or not
     pub as_session: bool,
 }
 
 fn fuel_in(rt: &HostRuntime, word: &str) -> Result<u32, Stop> {
     match word.parse::<u32>() {
         Ok(fuel) if fuel <= TAKE_FUEL => Ok(fuel),
-        _ => Err(Stop::Message(format!(in rt.alloc();
-            "--fuel wants a number, 0 to {TAKE_FUEL}, and not '{word}'"
-        )?)),
+        _ => stopped(
+            rt,
+            format_args!("--fuel wants a number, 0 to {TAKE_FUEL}, and not '{word}'"),
+        ),
     }
 }
 
@@ -31,7 +33,7 @@ pub fn options_in<'a>(rt: &HostRuntime, words: &[&'a str]) -> Result<Options<'a>
         as_session: false,
     };
     let mut rest = words;
-    'words: loop {
+    loop {
         rest = match rest {
             [] => return Ok(options),
             ["--session", more @ ..] => {
@@ -50,9 +52,14 @@ pub fn options_in<'a>(rt: &HostRuntime, words: &[&'a str]) -> Result<Options<'a>
                 options.fuel = fuel_in(rt, *value)?;
                 more
             }
-            [word, ..] => return Err(Stop::Message(format!(in rt.alloc();
-                "run does not know '{word}', or a value is missing behind it; it knows --feed WORDS, --strip WORDS, --fuel N and --session"
-            )?)),
+            [word, ..] => {
+                return stopped(
+                    rt,
+                    format_args!(
+                        "run does not know '{word}', or a value is missing behind it; it knows --feed WORDS, --strip WORDS, --fuel N and --session"
+                    ),
+                );
+            }
         };
     }
 }
@@ -62,7 +69,7 @@ fn planned(rt: &HostRuntime, word: &str, said: &str) -> Result<Option<Line>, Sto
     let text = format!(in rt.alloc(); "{word} {said}")?;
     match read_line(rt.alloc(), text.as_bytes()) {
         Ok(line) => Ok(line),
-        Err(error) => Err(Stop::Message(format!(in rt.alloc(); "--{word} '{said}': {error}")?)),
+        Err(error) => stopped(rt, format_args!("--{word} '{said}': {error}")),
     }
 }
 

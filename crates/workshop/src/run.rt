@@ -1,8 +1,8 @@
 // `workshop run`: a table or a sheet, run to its end or until the fuel is spent, by the proved session.
 use crate::files::Given;
 use crate::options::options_in;
-use crate::stop::Stop;
-use crate::verdict::Size;
+use crate::stop::{Stop, stopped};
+use crate::verdict::{InWords, counts_of};
 use notation::plan::CallPlan;
 use planned::carry::{CarryError, Filled, Left, Outcome};
 use planned::plan::Session;
@@ -101,13 +101,11 @@ pub fn run(rt: &HostRuntime, path: &str, words: &[&str]) -> Result<(), Stop> {
     }
     match carry_out_session(rt.alloc(), &session) {
         Ok(outcome) => {
-            let counts = Size::of(&sequencer);
+            let counts = InWords(counts_of(&sequencer));
             println!(rt; "program: {path}, a {form}: {counts}")?;
             Ok(print_outcome(rt, &outcome)?)
         }
-        Err(CarryError::Refused(refusal)) => {
-            Err(Stop::Message(format!(in rt.alloc(); "--feed: {refusal}")?))
-        }
+        Err(CarryError::Refused(refusal)) => stopped(rt, format_args!("--feed: {refusal}")),
         Err(CarryError::Failed(error)) => Err(error.into()),
     }
 }

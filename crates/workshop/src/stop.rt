@@ -12,6 +12,7 @@ pub enum Stop {
     System(io::Error),
 }
 
+// No thiserror: it would write the first of these alone, since the others go by way of `io::Error`.
 impl From<io::Error> for Stop {
     fn from(error: io::Error) -> Stop {
         Stop::System(error)
@@ -37,11 +38,11 @@ impl From<fmt::Error> for Stop {
 }
 
 // A stop with these words.
-pub fn stopped<T>(rt: &HostRuntime, words: &str) -> Result<T, Stop> {
-    Err(Stop::Message(String::from_str(rt.alloc(), words)?))
+pub fn stopped<T, D: fmt::Display + Drop>(rt: &HostRuntime, words: D) -> Result<T, Stop> {
+    Err(Stop::Message(format!(in rt.alloc(); "{words}")?))
 }
 
-// Says on standard error why a command stopped.
+// Says on standard error why a command stopped. No Display: a stop that was told says nothing, not even the program's name.
 pub fn print_stop(rt: &HostRuntime, stop: Stop) -> io::Result<()> {
     match stop {
         Stop::Told => Ok(()),

@@ -2,37 +2,30 @@
 use crate::files::{Form, Given};
 use crate::stop::Stop;
 use sequencer::state::Sequencer;
-use sheet::layout::{ENTRY, HEADER};
+use sheet::layout::Counts;
 use std::{fmt, io};
 
-// How many nodes and words a program has.
+// How many there are. A program has at most 512 nodes and 1537 code words.
+fn counted<T>(items: &[T]) -> u16 {
+    u16::try_from(items.len()).unwrap_or(u16::MAX)
+}
+
+// The counts of the program that is loaded.
+pub fn counts_of(sequencer: &Sequencer) -> Counts {
+    Counts {
+        nodes: counted(sequencer.nodes()),
+        words: counted(sequencer.code()),
+    }
+}
+
+// Counts in words.
 #[derive(Clone, Copy)]
-pub struct Size {
-    nodes: usize,
-    words: usize,
-}
+pub struct InWords(pub Counts);
 
-impl Size {
-    // Of the program that is loaded.
-    pub fn of(sequencer: &Sequencer) -> Size {
-        Size {
-            nodes: sequencer.nodes().len(),
-            words: sequencer.code().len(),
-        }
-    }
-
-    // The bytes of its sheet.
-    fn of_sheet(self) -> usize {
-        let entries = self.nodes.saturating_add(self.words);
-        entries.saturating_mul(ENTRY).saturating_add(HEADER)
-    }
-}
-
-impl fmt::Display for Size {
+impl fmt::Display for InWords {
     fn fmt<W: fmt::Write>(&self, f: &mut fmt::Formatter<W>) -> fmt::Result {
-        let n = self.nodes;
-        let m = self.words;
-        write!(f, "{n} nodes, {m} code words")
+        let Counts { nodes, words } = self.0;
+        write!(f, "{nodes} nodes, {words} code words")
     }
 }
 
@@ -42,9 +35,10 @@ pub fn judge(rt: &HostRuntime, path: &str, form: Form) -> Result<(), Stop> {
     let mut sequencer = Sequencer::new();
     match given.load(&mut sequencer) {
         Ok(()) => {
-            let counts = Size::of(&sequencer);
-            let size = counts.of_sheet();
-            println!(rt; "accepted: {counts}, {size} bytes as a sheet")?;
+            let counts = counts_of(&sequencer);
+            let size = counts.total();
+            let words = InWords(counts);
+            println!(rt; "accepted: {words}, {size} bytes as a sheet")?;
             Ok(())
         }
         Err(refusal) => {
@@ -57,7 +51,7 @@ pub fn judge(rt: &HostRuntime, path: &str, form: Form) -> Result<(), Stop> {
 
 // A table given for a sheet, or a sheet for a table.
 fn hint(rt: &HostRuntime, given: &Given) -> io::Result<()> {
-    match (given.form, Form::from(given.bytes.as_slice())) {
+    match (given.form, Form::begun_as(given.bytes.as_slice())) {
         (Form::Table, Form::Sheet) => rt.println(
             "the file begins as a sheet does: 'workshop open' checks sheets",
         ),

@@ -46,49 +46,55 @@ fn declared_by(kind: Kind) -> Option<Declared> {
     }
 }
 
-// Walks the tree of node `n` in the order of the check of names, until the target is met: `scope` then has what is visible
-// there, the latest last. Answers whether it was met. A child is lower than its parent in every table of accepted shape; the
-// test makes the walk end for any other.
-fn walk(
-    nodes: &[Node],
-    n: usize,
+// A walk over the tree of a table to a node of it, in the order of the check of names. Not translation's own scope: its refusal
+// tells the node, and not what was visible there.
+#[derive(Drop)]
+struct Walk<'a> {
+    nodes: &'a [Node],
     target: usize,
-    scope: &mut Vec<Visible>,
-) -> Result<bool, AllocError> {
-    if n == target {
-        return Ok(true);
-    }
-    let Some(node) = nodes.get(n) else {
-        return Ok(false);
-    };
-    let Ok(kind) = Kind::try_from(node.kind) else {
-        return Ok(false);
-    };
-    let before = scope.len();
-    if matches!(kind, Kind::Procedure | Kind::Function) {
-        scope.push(Visible {
-            declared: Declared::Parameter,
-            name: node.c,
-            node: n,
-        })?;
-    }
-    for child in children(*node).as_slice() {
-        let child = usize::from(child.number);
-        if child < n && walk(nodes, child, target, scope)? {
+    // what is visible where the walk is, the latest last
+    scope: Vec<Visible>,
+}
+
+impl Walk<'_> {
+    // Walks the tree of node `n`, until the target is met: answers whether it was. A child is lower than its parent in every
+    // table of accepted shape; the test makes the walk end for any other.
+    fn meets(&mut self, n: usize) -> Result<bool, AllocError> {
+        if n == self.target {
             return Ok(true);
         }
+        let Some(node) = self.nodes.get(n).copied() else {
+            return Ok(false);
+        };
+        let Ok(kind) = Kind::try_from(node.kind) else {
+            return Ok(false);
+        };
+        let before = self.scope.len();
+        if matches!(kind, Kind::Procedure | Kind::Function) {
+            self.scope.push(Visible {
+                declared: Declared::Parameter,
+                name: node.c,
+                node: n,
+            })?;
+        }
+        for child in children(node).as_slice() {
+            let child = usize::from(child.number);
+            if child < n && self.meets(child)? {
+                return Ok(true);
+            }
+        }
+        if matches!(kind, Kind::Block | Kind::Procedure | Kind::Function) {
+            self.scope.truncate(before);
+        }
+        if let Some(declared) = declared_by(kind) {
+            self.scope.push(Visible {
+                declared,
+                name: u16::from(node.tag),
+                node: n,
+            })?;
+        }
+        Ok(false)
     }
-    if matches!(kind, Kind::Block | Kind::Procedure | Kind::Function) {
-        scope.truncate(before);
-    }
-    if let Some(declared) = declared_by(kind) {
-        scope.push(Visible {
-            declared,
-            name: u16::from(node.tag),
-            node: n,
-        })?;
-    }
-    Ok(false)
 }
 
 // The latest declaration of a name that is visible at a node, if there is one.
@@ -98,11 +104,15 @@ pub fn latest(
     target: usize,
     name: u8,
 ) -> Result<Option<Visible>, AllocError> {
-    let mut scope = Vec::new(heap);
-    let _met = walk(nodes, nodes.len().saturating_sub(1), target, &mut scope)?;
+    let mut walk = Walk {
+        nodes,
+        target,
+        scope: Vec::new(heap),
+    };
+    let _met = walk.meets(nodes.len().saturating_sub(1))?;
     let name = u16::from(name);
     Ok(
-        scope
+        walk.scope
             .iter()
             .rev()
             .find(|visible| visible.name == name)
