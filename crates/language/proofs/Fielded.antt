@@ -1,12 +1,19 @@
 -- What is asked of the fields of a node, field by field.
-use Rattle.std.proofs.Common.{◌≡◌, ℕ, ◌+◌, ◌≤◌, true, ◌&&◌, ltb, List, [], ◌∷◌, ◌++◌, refl, ap, ◌∙◌, add-one, arith}
+use Rattle.std.proofs.Common.{◌≡◌, ℕ, ◌+◌, ◌≤◌, Bool, true, ◌&&◌, ltb, List, [], ◌∷◌, ◌++◌, sym, refl, ap, ◌∙◌, add-one, arith}
+use Rattle.std.specs.List.{list_all}
 use Rattle.std.proofs.lemmas.Bool.{and_from, and_parts, ltb-true, lt-ltb}
 use Rattle.std.proofs.lemmas.List.Folds.{list_all-append}
 use Rattle.std.proofs.lemmas.Bool.Decides.{nat_tests}
 use Rattle.vocabulary.specs.declared.node.Node.{Node}
 use Rattle.language.specs.declared.kind.ChildField.{ChildField}
-use Rattle.language.specs.Fields.{children}
+use Rattle.language.specs.declared.kind.Field.{Field}
+use Rattle.language.specs.Fields.{child_in, named, children}
 use Rattle.language.specs.Table.{at, lower, hit, times, children_in}
+
+-- a test of each child that the fields name, field by field
+pub all_named : (p : ChildField → Bool) (fs : List Field) → list_all (λ (f : Field). list_all p (child_in f.rule f.value)) fs ≡ list_all p (named fs)
+all_named p [] = refl
+all_named p (f ∷ fs) = ap (λ (b : Bool). list_all p (child_in f.rule f.value) && b) (all_named p fs) ∙ sym (list_all-append p (child_in f.rule f.value) (named fs))
 
 pub lower-++ : (m : ℕ) (xs ys : List ChildField) → lower m (xs ++ ys) ≡ (lower m xs && lower m ys)
 lower-++ m xs ys = list_all-append (λ c. ltb c.number m) xs ys

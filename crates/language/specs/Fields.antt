@@ -85,9 +85,12 @@ child_in Operator v = []
 child_in Half v = []
 child_in (Child s) v = record { wanted = s; number = v } ∷ []
 
+abbrev pub named : List Field → List ChildField
+named fs = flat_map (λ f. child_in f.rule f.value) fs
+
 abbrev pub children_by : Option Fields → Node → List ChildField
 children_by None d = []
-children_by (Some r) d = flat_map (λ f. child_in f.rule f.value) (rest_in r d)
+children_by (Some r) d = named (rest_in r d)
 
 -- the children of a node, a before b before c
 unfoldable pub children : Node → List ChildField

@@ -1,15 +1,14 @@
 // The check of a table's shape. Names are checked where code is made.
-ghost use Rattle.std.specs.Prelude.{◌≡◌, ◌≢◌, IfSome, IsNone, ℕ, ◌<◌, ◌≤◌, true, length, slice_index, IfOk, IfErr, Ok, Err};
+ghost use Rattle.std.specs.Prelude.{◌≡◌, ◌≢◌, IfSome, IsNone, ℕ, ◌<◌, ◌≤◌, true, length, drop, slice_index, IfOk, IfErr, Ok, Err};
 ghost use Rattle.std.specs.List.{list_all};
-ghost use Rattle.language.specs.Fields.{admits, formed, is_of};
+ghost use Rattle.language.specs.Fields.{admits, child_in, formed, is_of, named};
 ghost use Rattle.language.specs.Fields.{children as children_of};
 ghost use Rattle.language.specs.Kinds.{kind_number};
 ghost use Rattle.language.specs.Table.{at, lower, fitting, root_of, Tallied};
 ghost use Rattle.language.specs.Verdicts.{node_verdict, parent_verdict, root_verdict, upward, shape_verdict, tree_verdict};
 
 use crate::form::Form;
-use crate::kind::{ChildField, Field, Kind, Sort, UnknownKind};
-use crate::rules::children;
+use crate::kind::{Field, Kind, Rule, Sort, UnknownKind};
 use vocabulary::node::Node;
 use vocabulary::refusal::{Cause, Refusal};
 
@@ -67,6 +66,20 @@ struct Counted<'a> {
     ghost few: { length nodes.now ≤ 512 },
 }
 
+// The fields of a node, each with its rule; where its kind is unknown, fields that break their rules and name no child.
+fn fields_of(node: Node) -> [Field; 4]
+    ensures formed { list_all (λ f. admits f.rule f.value) result ≡ formed node }
+    ensures children { named (drop 1 result) ≡ children_of node }
+{
+    let Ok(kind) = Kind::try_from(node.kind) else {
+        return [Field {
+            rule: Rule::Unused,
+            value: 1,
+        }; 4];
+    };
+    kind.fields().of(node)
+}
+
 // Whether each field keeps its rule.
 fn keep_rules(fields: &[Field]) -> bool
     ensures { result ≡ list_all (λ f. admits f.rule f.value) fields.now }
@@ -74,21 +87,21 @@ fn keep_rules(fields: &[Field]) -> bool
     fields.iter().all(|field| field.keeps_rule())
 }
 
-// Whether the kind is known, and the fields keep its rules.
-fn is_formed(node: Node) -> bool
-    ensures { result ≡ formed node }
+// Whether the child of a field, if it names one, has a number below `n`.
+fn is_lower(field: Field, n: usize) -> bool
+    ensures { result ≡ lower n (child_in field.rule field.value) }
 {
-    let Ok(kind) = Kind::try_from(node.kind) else {
-        return false;
-    };
-    keep_rules(&kind.fields().of(node))
+    match field.child() {
+        Some(child) => usize::from(child.number) < n,
+        None => true,
+    }
 }
 
 // Whether each child has a number below `n`.
-fn are_lower(children: &[ChildField], n: usize) -> bool
-    ensures { result ≡ lower n children.now }
+fn are_lower(fields: &[Field], n: usize) -> bool
+    ensures { result ≡ list_all (λ f. lower n (child_in f.rule f.value)) fields.now }
 {
-    children.iter().all(|child| usize::from(child.number) < n)
+    fields.iter().all(|field| is_lower(*field, n))
 }
 
 // The first number that is not a child exactly once.
@@ -120,29 +133,39 @@ impl Counted<'_> {
         kind.sort() == sort
     }
 
-    // Whether each child is of the sort that is wanted.
-    fn are_fitting(self, children: &[ChildField]) -> bool
-        ensures { result ≡ fitting self.entry.nodes.now children.now }
+    // Whether the child of a field, if it names one, is of the sort that is wanted.
+    fn is_fitting(self, field: Field) -> bool
+        ensures { result ≡ fitting self.entry.nodes.now (child_in field.rule field.value) }
     {
-        children
-            .iter()
-            .all(|child| self.has(child.wanted, usize::from(child.number)))
+        match field.child() {
+            Some(child) => self.has(child.wanted, usize::from(child.number)),
+            None => true,
+        }
+    }
+
+    // Whether each child is of the sort that is wanted.
+    fn are_fitting(self, fields: &[Field]) -> bool
+        ensures { result ≡ list_all (λ f. fitting self.entry.nodes.now (child_in f.rule f.value)) fields.now }
+    {
+        fields.iter().all(|field| self.is_fitting(*field))
     }
 
     // A node by itself: the first of its faults. By ranges of kinds with guards, as a rule of the project has the node check.
-    fn check_node(self, n: usize, node: Node, children: &[ChildField]) -> Result<(), Refusal>
+    fn check_node(self, n: usize, node: Node, fields: [Field; 4]) -> Result<(), Refusal>
         requires here { n < length self.nodes.now }
         requires is { node ≡ at self.nodes.now n }
-        requires held { children.now ≡ children_of node }
+        requires formed { list_all (λ f. admits f.rule f.value) fields ≡ formed node }
+        requires lower { list_all (λ f. lower n (child_in f.rule f.value)) (drop 1 fields) ≡ lower n (children_of node) }
+        requires fitting { list_all (λ f. fitting self.nodes.now (child_in f.rule f.value)) (drop 1 fields) ≡ fitting self.nodes.now (children_of node) }
         ensures { result ≡ node_verdict self.entry.nodes.now n }
     {
         let number = n as u16;
         match node.kind {
-            1..=7 | 10..=14 | 20..=26 if !is_formed(node) => Err(Cause::FieldRule.at(number)),
-            1..=7 | 10..=14 | 20..=26 if !are_lower(children, n) => Err(Cause::ChildNotLower.at(
+            1..=7 | 10..=14 | 20..=26 if !keep_rules(&fields) => Err(Cause::FieldRule.at(number)),
+            1..=7 | 10..=14 | 20..=26 if !are_lower(&fields[1..], n) => Err(Cause::ChildNotLower.at(
                 number,
             )),
-            1..=7 | 10..=14 | 20..=26 if !self.are_fitting(children) => Err(Cause::ChildSort.at(
+            1..=7 | 10..=14 | 20..=26 if !self.are_fitting(&fields[1..]) => Err(Cause::ChildSort.at(
                 number,
             )),
             1..=7 | 10..=14 | 20..=26 => Ok(()),
@@ -157,10 +180,12 @@ impl Counted<'_> {
     {
         let mut tallies = [0; 512];
         for (n, node) in self.nodes.iter().enumerate() {
-            let children = children(*node);
-            self.check_node(n, *node, children.as_slice())?;
-            for child in children.as_slice() {
-                tallies[usize::from(child.number)] += 1;
+            let fields = fields_of(*node);
+            self.check_node(n, *node, fields)?;
+            for field in &fields[1..] {
+                if let Some(child) = field.child() {
+                    tallies[usize::from(child.number)] += 1;
+                }
             }
         }
         Ok(tallies)

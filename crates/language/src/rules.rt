@@ -1,6 +1,7 @@
 // What each field of a node has to hold, and the children that its fields name.
-ghost use Rattle.std.specs.Prelude.{◌≡◌};
-ghost use Rattle.language.specs.Fields.{fields_in, admits, children};
+ghost use Rattle.std.specs.Prelude.{◌≡◌, []};
+ghost use Rattle.std.specs.List.{cons_option};
+ghost use Rattle.language.specs.Fields.{fields_in, admits, child_in, children};
 
 use crate::kind::{ChildField, Field, Fields, Kind, Rule, Sort};
 use vocabulary::node::Node;
@@ -17,11 +18,8 @@ pub fn children(node: Node) -> Table<ChildField, 3>
     if let Ok(kind) = Kind::try_from(node.kind) {
         let fields = kind.fields().of(node);
         for field in &fields[1..] {
-            if let Rule::Child(wanted) = field.rule {
-                children.push(ChildField {
-                    wanted,
-                    number: field.value,
-                });
+            if let Some(child) = field.child() {
+                children.push(child);
             }
         }
     }
@@ -55,6 +53,19 @@ impl Fields {
 }
 
 impl Field {
+    // The child that it names, where its rule is that of a child.
+    pub fn child(self) -> Option<ChildField>
+        ensures { cons_option result [] ≡ child_in self.rule self.value }
+    {
+        match self.rule {
+            Rule::Child(wanted) => Some(ChildField {
+                wanted,
+                number: self.value,
+            }),
+            Rule::Unused | Rule::Name | Rule::Truth | Rule::Operator | Rule::Half => None,
+        }
+    }
+
     // Whether it may hold its value, but for what is asked of a child.
     pub fn keeps_rule(self) -> bool
         ensures { result ≡ admits self.rule self.value }
