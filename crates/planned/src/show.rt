@@ -84,6 +84,9 @@ pub fn push_items(text: &mut String, items: &[Item]) -> Result<(), AllocError>
     push_each(text, items, " ", AsWord, "")
 }
 
+// The lines of a text strip go byte by byte with `begins`, as `lines_text` does. Over `split_inclusive` the loop's step didn't close:
+// that a line cut off the front gives its part of `lines_text`.
+
 // What stands before a byte of a line: a blank before the first.
 fn before(begins: bool) -> &'static str
     ensures { result.now ≡ (if begins then 32 ∷ [] else []) }
