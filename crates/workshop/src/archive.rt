@@ -1,5 +1,5 @@
 // `workshop sheet`: writes the archive sheet of a table.
-use crate::files::{Form, Given, read_file};
+use crate::files::{FileKind, Given, read_file};
 use crate::stop::{Stop, stopped};
 use crate::verdict::{InWords, counts_of};
 use sequencer::state::Sequencer;
@@ -45,7 +45,7 @@ fn write_new(rt: &HostRuntime, path: &str, bytes: &[u8]) -> Result<(), Stop> {
 
 pub fn write_sheet_of(rt: &HostRuntime, table: &str, sheet: &str) -> Result<(), Stop> {
     let mut sequencer = Sequencer::new();
-    Given::read_as(rt, table, Form::Table)?.accept(rt, &mut sequencer)?;
+    Given::read_as(rt, table, FileKind::Table)?.accept(rt, &mut sequencer)?;
     let written = sheet_bytes(rt, &sequencer)?;
     write_new(rt, sheet, written.as_slice())?;
     let counts = InWords(counts_of(&sequencer));

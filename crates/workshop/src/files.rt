@@ -10,27 +10,27 @@ use vocabulary::refusal::Refusal;
 
 // What a file is taken for.
 #[derive(Clone, Copy, PartialEq, Eq, Debug)]
-pub enum Form {
+pub enum FileKind {
     Table,
     Sheet,
 }
 
-impl fmt::Display for Form {
+impl fmt::Display for FileKind {
     fn fmt<W: fmt::Write>(&self, f: &mut fmt::Formatter<W>) -> fmt::Result {
         f.write_str(match self {
-            Form::Table => "table",
-            Form::Sheet => "sheet",
+            FileKind::Table => "table",
+            FileKind::Sheet => "sheet",
         })
     }
 }
 
-impl Form {
+impl FileKind {
     // What bytes begin as. A sheet begins with 1 and has 16 in its fourth field. No accepted table begins so: its first node
     // would be an assignment with something in field c.
-    pub fn begun_as(bytes: &[u8]) -> Form {
+    pub fn begun_as(bytes: &[u8]) -> FileKind {
         match bytes {
-            [1, 0, _, _, _, _, 16, 0, ..] => Form::Sheet,
-            _ => Form::Table,
+            [1, 0, _, _, _, _, 16, 0, ..] => FileKind::Sheet,
+            _ => FileKind::Table,
         }
     }
 }
@@ -39,7 +39,7 @@ impl Form {
 #[derive(Drop)]
 pub struct Given<'a> {
     pub path: &'a str,
-    pub form: Form,
+    pub form: FileKind,
     pub bytes: Vec<u8>,
 }
 
@@ -56,13 +56,13 @@ impl<'a> Given<'a> {
         let bytes = read_file(rt, path)?;
         Ok(Given {
             path,
-            form: Form::begun_as(bytes.as_slice()),
+            form: FileKind::begun_as(bytes.as_slice()),
             bytes,
         })
     }
 
     // A file, taken for this.
-    pub fn read_as(rt: &HostRuntime, path: &'a str, form: Form) -> Result<Given<'a>, Stop> {
+    pub fn read_as(rt: &HostRuntime, path: &'a str, form: FileKind) -> Result<Given<'a>, Stop> {
         let bytes = read_file(rt, path)?;
         Ok(Given { path, form, bytes })
     }
@@ -70,24 +70,24 @@ impl<'a> Given<'a> {
     // Has the bytes loaded or opened.
     pub fn load(&self, sequencer: &mut Sequencer) -> Result<(), Refusal> {
         match self.form {
-            Form::Table => sequencer.load(self.bytes.as_slice()),
-            Form::Sheet => sequencer.open(self.bytes.as_slice()),
+            FileKind::Table => sequencer.load(self.bytes.as_slice()),
+            FileKind::Sheet => sequencer.open(self.bytes.as_slice()),
         }
     }
 
     // The call of a session that does the same.
     pub fn into_call(self) -> CallPlan {
         match self.form {
-            Form::Table => CallPlan::Load(self.bytes),
-            Form::Sheet => CallPlan::Open(self.bytes),
+            FileKind::Table => CallPlan::Load(self.bytes),
+            FileKind::Sheet => CallPlan::Open(self.bytes),
         }
     }
 
     // A refusal and what it is about, in two lines; the second is empty where nothing is known.
     pub fn refusal_text(&self, heap: Global, refusal: Refusal) -> Result<String, AllocError> {
         let advice = match self.form {
-            Form::Table => Some(table_advice(heap, self.bytes.as_slice(), refusal)?),
-            Form::Sheet => sheet_advice(heap, self.bytes.as_slice(), refusal)?,
+            FileKind::Table => Some(table_advice(heap, self.bytes.as_slice(), refusal)?),
+            FileKind::Sheet => sheet_advice(heap, self.bytes.as_slice(), refusal)?,
         };
         match advice {
             Some(advice) => format!(in heap; "{refusal}\n{advice}"),

@@ -16,7 +16,7 @@ mod visible;
 mod words;
 
 use archive::write_sheet_of;
-use files::Form;
+use files::FileKind;
 use list::{list, print_page};
 use planned::demonstration::demonstrate;
 use planned::show::InNumbers;
@@ -54,10 +54,10 @@ The status is 0 where the command was carried out, and 1 where it was refused.";
 fn carry_out(rt: &HostRuntime, words: &[&str]) -> Result<(), Stop> {
     match words {
         [] => demonstrate(rt, print_page),
-        ["check", table] => judge(rt, *table, Form::Table),
+        ["check", table] => judge(rt, *table, FileKind::Table),
         ["list", file] => list(rt, *file),
         ["sheet", table, sheet] => write_sheet_of(rt, *table, *sheet),
-        ["open", sheet] => judge(rt, *sheet, Form::Sheet),
+        ["open", sheet] => judge(rt, *sheet, FileKind::Sheet),
         ["run", file, options @ ..] => run(rt, *file, options),
         ["session"] => run_session(rt, InNumbers),
         ["session", "--words"] => run_session(rt, |answer| answer),

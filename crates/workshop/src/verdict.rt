@@ -1,5 +1,5 @@
 // The verdict on a table or a sheet, for people: accepted with its counts, or refused with number, node and words.
-use crate::files::{Form, Given};
+use crate::files::{FileKind, Given};
 use crate::stop::Stop;
 use sequencer::state::Sequencer;
 use sheet::layout::Counts;
@@ -30,7 +30,7 @@ impl fmt::Display for InWords {
 }
 
 // `workshop check` and `workshop open`: the verdict stands on standard output, and a refusal ends with status 1.
-pub fn judge(rt: &HostRuntime, path: &str, form: Form) -> Result<(), Stop> {
+pub fn judge(rt: &HostRuntime, path: &str, form: FileKind) -> Result<(), Stop> {
     let given = Given::read_as(rt, path, form)?;
     let mut sequencer = Sequencer::new();
     match given.load(&mut sequencer) {
@@ -51,13 +51,13 @@ pub fn judge(rt: &HostRuntime, path: &str, form: Form) -> Result<(), Stop> {
 
 // A table given for a sheet, or a sheet for a table.
 fn hint(rt: &HostRuntime, given: &Given) -> io::Result<()> {
-    match (given.form, Form::begun_as(given.bytes.as_slice())) {
-        (Form::Table, Form::Sheet) => rt.println(
+    match (given.form, FileKind::begun_as(given.bytes.as_slice())) {
+        (FileKind::Table, FileKind::Sheet) => rt.println(
             "the file begins as a sheet does: 'workshop open' checks sheets",
         ),
-        (Form::Sheet, Form::Table) => rt.println(
+        (FileKind::Sheet, FileKind::Table) => rt.println(
             "the file does not begin as a sheet does: 'workshop check' checks tables",
         ),
-        (Form::Table, Form::Table) | (Form::Sheet, Form::Sheet) => Ok(()),
+        (FileKind::Table, FileKind::Table) | (FileKind::Sheet, FileKind::Sheet) => Ok(()),
     }
 }
