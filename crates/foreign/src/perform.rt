@@ -14,7 +14,7 @@ use sequencer::state::Sequencer;
 use vocabulary::refusal::{Cause, Refusal};
 
 // Grants the fuel in runs, and what is over in a last one. A run is refused only when the take has ended, and then no fuel
-// moves it.
+// moves it, so that no more of it is granted.
 fn grant_all<F: Feed, S: Strip>(sequencer: &mut Sequencer, fuel: u32, feed: &mut F, strip: &mut S)
     requires program { program_verdict (model sequencer.old) ≡ Ok tt }
     requires enough { (model sequencer.old).granted + fuel ≤ 1000000000 }
@@ -22,7 +22,10 @@ fn grant_all<F: Feed, S: Strip>(sequencer: &mut Sequencer, fuel: u32, feed: &mut
     ensures kept { S.Strip.keeps strip.old strip.new }
 {
     for _run in 0..fuel / RUN_FUEL {
-        let _ = sequencer.run(RUN_FUEL, feed, strip);
+        match sequencer.run(RUN_FUEL, feed, strip) {
+            Ok(_) => (),
+            Err(_ended) => return,
+        }
     }
     let _ = sequencer.run(fuel % RUN_FUEL, feed, strip);
 }

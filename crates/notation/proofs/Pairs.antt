@@ -1,11 +1,12 @@
 -- Hex digits, taken pair by pair: the bytes so far and what is left of the word make up the word.
 use Rattle.std.proofs.Common.{◌≡◌, ℕ, zero, suc, ◌+◌, ◌*◌, ◌/◌, ◌%◌, ◌^◌, ◌-◌, ◌<◌, ◌≤◌, false, eqb, List, [], ◌∷◌, ◌++◌, length, get_or, take, drop, map, sym, refl, ap, ◌∙◌, append_assoc, length-append, subst, arith}
+use lib.Utf8.{encode}
 use Rattle.std.proofs.lemmas.List.{take_more, nil_from_length, length-take-le, length-map}
 use Rattle.std.proofs.ByRecursion.{All-append}
 use Rattle.std.specs.List.{AllByRecursion}
 use Rattle.std.specs.Simd.{first_chunks}
-use Rattle.std.specs.Fmt.{digits, padded_integral, format_spec}
-use Rattle.std.proofs.lemmas.Fmt.{hex_byte}
+use Rattle.std.proofs.lemmas.Str.{encode_ascii}
+use Rattle.std.proofs.lemmas.Bool.Decides.{nat_tests}
 use Rattle.std.proofs.lemmas.Bool.{eqb-false}
 use Rattle.notation.specs.declared.error.WordError.{WordError}
 use Rattle.notation.specs.declared.error.WordError.TheVariants.{NoHexDigit}
@@ -103,5 +104,8 @@ module _ (word : List ℕ) (pairs : List (List ℕ)) (front : pairs ≡ first_ch
   pair_error items small e w f = subst (HexError word) (sym f.2) (even, pair_fault word pairs front k h items small e f.0 f.1 f.3)
 
 -- writing
-pub digits_more : (bytes : List ℕ) (i : ℕ) → i < length bytes → get_or bytes i 0 < 256 → hex_digits (take i bytes) ++ padded_integral (format_spec 32 0 4 2 (2 ^ 64 - 1)) false [] (digits 16 false (get_or bytes i 0)) ≡ hex_digits (take (i + 1) bytes)
-digits_more bytes i h small = ap (λ t. hex_digits (take i bytes) ++ t) (hex_byte false (get_or bytes i 0) small) ∙ sym (ap hex_digits (take_more bytes i 0 h) ∙ digits_append (take i bytes) (get_or bytes i 0 ∷ []))
+pub encode_digit : (d : ℕ) → d < 16 → encode (hex_digit d) ≡ hex_digit d ∷ []
+encode_digit d h = encode_ascii (hex_digit d) (grind (arith, nat_tests))
+
+pub digits_more : (bytes : List ℕ) (i : ℕ) → i < length bytes → hex_digits (take (i + 1) bytes) ≡ hex_digits (take i bytes) ++ (hex_digit (get_or bytes i 0 / 16) ∷ hex_digit (get_or bytes i 0 % 16) ∷ [])
+digits_more bytes i h = ap hex_digits (take_more bytes i 0 h) ∙ digits_append (take i bytes) (get_or bytes i 0 ∷ [])

@@ -71,7 +71,18 @@ pub fn read_hex(heap: Global, word: &[u8], wanted: Wanted) -> Result<Vec<u8>, Re
     }
 }
 
-// Bytes that print as the word that gives them.
+fn digit_char(digit: u8) -> char
+    requires { digit < 16 }
+    ensures { result ≡ hex_digit digit }
+{
+    if digit < 10 {
+        char::from(b'0' + digit)
+    } else {
+        char::from(b'a' + (digit - 10))
+    }
+}
+
+// Bytes that print as the word that gives them. Digit by digit: `{byte:02x}` takes several times as long.
 #[derive(Clone, Copy)]
 pub struct Hex<'a>(pub &'a [u8]);
 
@@ -83,7 +94,8 @@ impl fmt::Display for Hex<'_> {
             return f.write_str("-");
         }
         for &byte in self.0 {
-            write!(f, "{byte:02x}")?;
+            f.write_char(digit_char(byte / 16))?;
+            f.write_char(digit_char(byte % 16))?;
         }
         Ok(())
     }
