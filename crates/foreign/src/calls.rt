@@ -22,7 +22,7 @@ use vocabulary::refusal::Refusal;
 pub extern "C" fn small_check(table: &[u8]) -> Checked
     ensures { result ≡ checked_of (table_verdict table.now) }
 {
-    Program::accept(table).into()
+    Program::check(table).into()
 }
 
 // Whether a sheet is accepted.

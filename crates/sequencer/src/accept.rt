@@ -1,4 +1,5 @@
 ghost use Rattle.std.specs.Prelude.{◌≡◌, ◌≤◌, length};
+ghost use Rattle.language.specs.Verdicts.{table_verdict};
 ghost use Rattle.sequencer.specs.Accepts.{Accepts, AcceptsSheet};
 ghost use Rattle.sequencer.specs.Model.{held};
 
@@ -13,6 +14,15 @@ use vocabulary::node::Node;
 use vocabulary::refusal::{Cause, Refusal};
 
 impl Program {
+    // Whether a table is accepted. Its program is not handed out, which costs a short table more than its check does.
+    pub fn check(table: &[u8]) -> Result<(), Refusal>
+        ensures { result ≡ table_verdict table.now }
+    {
+        let read = read_table(table)?;
+        translate(check_shape(read.as_slice())?)?;
+        Ok(())
+    }
+
     // Checks a table and translates it.
     pub fn accept(table: &[u8]) -> Result<Program, Refusal>
         ensures { Accepts table.now result }
