@@ -2,7 +2,7 @@
 use anyhow::anyhow;
 use planned::input::read_session;
 use planned::plan::{Plan, PlanError};
-use planned::whole::session_text;
+use planned::whole::printout;
 use script::read::{line_of, words_of};
 use session::Answer;
 use std::alloc::Global;
@@ -36,6 +36,6 @@ pub fn run_session<D: fmt::Display + Drop, F: Fn(Answer) -> D>(
         "error: a session has a feed line and a strip line",
     )?
     .ok_or(anyhow!("there is no session"))?;
-    rt.print(session_text(heap, &session, shown)?)?;
+    rt.print(printout(heap, &session, shown)?)?;
     Ok(())
 }
