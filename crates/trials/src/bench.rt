@@ -3,7 +3,7 @@ use crate::plan::Step;
 use crate::show::{print_code, print_sum};
 use anyhow::anyhow;
 use notation::plan::CallPlan;
-use planned::show::{InNumbers, push_bytes};
+use planned::show::{BytesLine, InNumbers};
 use ports::feed::Feed;
 use ports::strip::Strip;
 use sequencer::state::Sequencer;
@@ -96,9 +96,10 @@ impl Bench {
     }
 
     fn look(&self, rt: &HostRuntime) -> io::Result<()> {
-        let mut text = String::new(rt.alloc());
-        push_bytes(&mut text, "memory", self.memory.as_slice())?;
-        rt.print(text)
+        rt.print(BytesLine {
+            word: "memory",
+            bytes: self.memory.as_slice(),
+        })
     }
 
     // Whether a sheet with this change of one byte is refused; the change is taken back.
