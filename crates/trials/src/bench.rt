@@ -110,11 +110,11 @@ impl Bench {
         opened.is_err()
     }
 
-    // Prints how many of the sheets that differ from this one in one byte are refused, and how many there are. Two ranges, since the
-    // same copy is changed at a place and changed back: an iterator over its bytes would hold it.
+    // Prints how many of the sheets that differ from this one in one byte are refused, and how many there are, neither of which counts
+    // past 32 bits. Two ranges, since the same copy is changed at a place and changed back: an iterator over its bytes would hold it.
     fn flips(&mut self, rt: &HostRuntime, sheet: &[u8]) -> anyhow::Result<()> {
         let mut copy = sheet.to_vec(rt.alloc())?;
-        let mut refused = 0usize;
+        let mut refused = 0u32;
         for at in 0..sheet.len() {
             for change in 1..=u8::MAX {
                 if self.refuses(copy.as_mut_slice(), at, change) {
@@ -122,7 +122,7 @@ impl Bench {
                 }
             }
         }
-        let tried = sheet.len().saturating_mul(255);
+        let tried = u32::try_from(sheet.len().saturating_mul(255)).unwrap_or(u32::MAX);
         println!(rt; "flips {refused} {tried}")?;
         Ok(())
     }
