@@ -4,7 +4,7 @@ ghost use Rattle.std.specs.Prelude.{◌≡◌, ℕ, List, true, [], ◌∷◌, �
 ghost use Rattle.std.specs.List.{flat_map};
 ghost use Rattle.ports.specs.Lines.{word_of};
 ghost use Rattle.ports.specs.Records.{value_of};
-ghost use Rattle.planned.specs.Answers.{answer_text};
+ghost use Rattle.planned.specs.Answers.{answer_text, answers_text};
 ghost use Rattle.planned.specs.Leaves.{items_text, records_text, byte_text, lines_text, bytes_text, filled_text, memory_text, left_text};
 ghost use Rattle.planned.specs.Printouts.{printout_text};
 
@@ -78,6 +78,22 @@ pub fn push_each<T: Copy, D: fmt::Display + Drop, F: Fn(T) -> D>(
         write!(text, "{before}{word}{after}")?;
     }
     Ok(())
+}
+
+// The answers of a session in numbers, a line each.
+pub fn answers_in_numbers(heap: Global, answers: &[Answer]) -> Result<String, AllocError>
+    ensures { IfOk result (λ text. string_bytes text ≡ answers_text answers.now) }
+{
+    let mut text = String::new(heap);
+    push_each(&mut text, answers, "", InNumbers, "\n")?;
+    Ok(text)
+}
+
+// The same as sentences. No contract: a sentence states no output of its own, so there is no text to speak of.
+pub fn answers_in_words(heap: Global, answers: &[Answer]) -> Result<String, AllocError> {
+    let mut text = String::new(heap);
+    push_each(&mut text, answers, "", |answer: Answer| answer, "\n")?;
+    Ok(text)
 }
 
 // Items that print as their words, each behind a blank.

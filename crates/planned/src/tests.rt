@@ -1,10 +1,11 @@
 // Whole sessions, from their lines to what they print.
 use crate::plan::{Plan, Session};
-use crate::show::InNumbers;
+use crate::show::{InNumbers, answers_in_numbers, answers_in_words};
 use crate::whole::{printout, session_text};
 use session::Answer;
 use std::fmt;
 use std::test::Fail;
+use vocabulary::refusal::{Cause, Refusal};
 
 // The session that these lines plan.
 fn session_of(rt: &HostRuntime, lines: &[&str]) -> Result<Session, Fail> {
@@ -71,6 +72,25 @@ fn refuses_a_ramp(rt: HostRuntime) -> Result<(), Fail> {
     assert_eq!(rt;
         format!(in rt.alloc(); "{page}")?.as_str(),
         "refused 16 0\n"
+    );
+    Ok(())
+}
+
+// Answers alone, in numbers and as sentences.
+#[test]
+fn shows_answers(rt: HostRuntime) -> Result<(), Fail> {
+    let refusal = Refusal {
+        cause: Cause::NoProgram,
+        node: 0,
+    };
+    let answers = [Answer::Done, Answer::Refused(refusal)];
+    assert_eq!(rt;
+        answers_in_numbers(rt.alloc(), &answers)?.as_str(),
+        "done\nrefused 1 0\n"
+    );
+    assert_eq!(rt;
+        answers_in_words(rt.alloc(), &answers)?.as_str(),
+        "done\nrefused (1): no program is loaded\n"
     );
     Ok(())
 }
