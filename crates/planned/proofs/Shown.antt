@@ -1,11 +1,11 @@
--- What is shown, a line each, line by line.
-use Rattle.std.proofs.Common.{◌≡◌, ℕ, ◌+◌, ◌<◌, ◌≤◌, List, [], ◌∷◌, ◌++◌, length, get_or, take, Option, Some, None, Result, Ok, refl, sym, ap, ◌∙◌, subst, append_assoc, append-nil, take_all}
+-- What is shown, a line each: with each item the text grows by its line, and so do what is written and the pieces that are gathered.
+use Rattle.std.proofs.Common.{◌≡◌, ℕ, ◌+◌, ◌<◌, ◌≤◌, List, [], ◌∷◌, ◌++◌, length, get_or, take, Option, Some, None, Result, Ok, refl, sym, ap, ◌∙◌, subst, append-nil, take_all}
 use Rattle.std.specs.Prelude.{IfSome, IsOk}
 use Rattle.std.specs.List.{flat_map}
 use Rattle.std.specs.Fmt.{DisplaysOnOk, HasWritten, option_append, with_newline}
 use Rattle.std.specs.declared.fmt.Error.{Error}
 use Rattle.std.specs.declared.fmt.Formatter.{Formatter}
-use Rattle.std.proofs.Output.{has_written_append}
+use Rattle.std.proofs.Output.{has_written_append, then_text_assoc}
 use Rattle.std.proofs.lemmas.List.{take_more, flat_map_more}
 use Rattle.planned.specs.Printouts.{lines_shown}
 
@@ -20,12 +20,6 @@ module _ {W : Type 0} (took : W → List ℕ → W → Type 0) where
   shows-then f g h (Some a) None r x y ok = tt
   shows-then f g h (Some a) (Some b) r x y ok = has_written_append took f a g b h x (y x.plain ok)
 
-append-assoc-shown : (o p q : Option (List ℕ)) → option_append (option_append o p) q ≡ option_append o (option_append p q)
-append-assoc-shown None p q = refl
-append-assoc-shown (Some a) None q = refl
-append-assoc-shown (Some a) (Some b) None = refl
-append-assoc-shown (Some a) (Some b) (Some c) = ap Some (append_assoc a b c)
-
 lone-line : (o : Option (List ℕ)) → option_append o (Some []) ≡ option_append (Some []) o
 lone-line None = refl
 lone-line (Some a) = ap Some (append-nil a)
@@ -34,7 +28,7 @@ module _ {D : Type 0} (text : D → Option (List ℕ)) where
   lines_shown-push : (ds : List D) (d : D) → lines_shown text (ds ++ (d ∷ [])) ≡ option_append (lines_shown text ds) (with_newline (text d))
   lines_shown-push [] d = lone-line (with_newline (text d))
   lines_shown-push (x ∷ ds) d =
-      ap (option_append (with_newline (text x))) (lines_shown-push ds d) ∙ sym (append-assoc-shown (with_newline (text x)) (lines_shown text ds) (with_newline (text d)))
+      ap (option_append (with_newline (text x))) (lines_shown-push ds d) ∙ sym (then_text_assoc (with_newline (text x)) (lines_shown text ds) (with_newline (text d)))
 
   lines_shown-more : (ds : List D) (i : ℕ) (x : D) → i < length ds → x ≡ get_or ds i x → lines_shown text (take (i + 1) ds) ≡ option_append (lines_shown text (take i ds)) (with_newline (text x))
   lines_shown-more ds i x h is =
