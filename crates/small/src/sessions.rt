@@ -1,5 +1,6 @@
 // A session from standard input: all of it is read before anything is carried out.
 use anyhow::anyhow;
+use notation::error::ReadError;
 use planned::input::read_session;
 use planned::plan::{Plan, PlanError};
 use planned::whole::printout;
@@ -8,7 +9,8 @@ use session::Answer;
 use std::alloc::Global;
 use std::fmt;
 
-// Takes in a line of text. `small` says of a second feed or strip what it always has, in other words than the plan.
+// Takes in a line of text. `small` says of a second feed or strip, and of want of memory, what it always has, in other words than the
+// plan.
 fn take(heap: Global, plan: &mut Plan, text: &str) -> anyhow::Result<()> {
     let words = words_of(heap, text)?;
     if words.is_empty() {
@@ -18,6 +20,7 @@ fn take(heap: Global, plan: &mut Plan, text: &str) -> anyhow::Result<()> {
     plan.add(line).map_err(|error| match error {
         PlanError::SecondFeed => anyhow!("there is a feed already"),
         PlanError::SecondStrip => anyhow!("there is a strip already"),
+        PlanError::Line(ReadError::Memory) => anyhow!("memory allocation failed"),
         other => anyhow::Error::from(other),
     })
 }
