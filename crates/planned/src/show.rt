@@ -1,10 +1,12 @@
-// Answers and what is left as lines of text, in numbers, for scripts.
+// Answers and what is left as lines of text, in numbers, for scripts. All of it prints piece by piece, so that none of the text has to
+// be held.
 ghost use Rattle.std.specs.Prelude.{◌≡◌, ℕ, List, true, [], ◌∷◌, ◌++◌, IfOk, if◌then◌else◌, Some, string_bytes, OnOk};
 ghost use Rattle.std.specs.List.{flat_map};
 ghost use Rattle.ports.specs.Lines.{word_of};
 ghost use Rattle.ports.specs.Records.{value_of};
-ghost use Rattle.planned.specs.Answers.{answer_text};
+ghost use Rattle.planned.specs.Answers.{answer_text, answers_text};
 ghost use Rattle.planned.specs.Leaves.{items_text, records_text, byte_text, lines_text, bytes_text, filled_text, memory_text, left_text};
+ghost use Rattle.planned.specs.Printouts.{printout_text};
 
 use crate::carry::{Filled, Left};
 use notation::hex::Hex;
@@ -14,6 +16,7 @@ use session::Answer;
 use std::alloc::{AllocError, Global};
 use std::fmt;
 use vocabulary::item::Item;
+use vocabulary::refusal::Refusal;
 
 // An answer in numbers.
 #[derive(Clone, Copy)]
@@ -77,11 +80,60 @@ pub fn push_each<T: Copy, D: fmt::Display + Drop, F: Fn(T) -> D>(
     Ok(())
 }
 
-// The items, each behind a blank.
+// The answers of a session in numbers, a line each.
+pub fn answers_in_numbers(heap: Global, answers: &[Answer]) -> Result<String, AllocError>
+    ensures { IfOk result (λ text. string_bytes text ≡ answers_text answers.now) }
+{
+    let mut text = String::new(heap);
+    push_each(&mut text, answers, "", InNumbers, "\n")?;
+    Ok(text)
+}
+
+// The same as sentences. No contract: a sentence states no output of its own, so there is no text to speak of.
+pub fn answers_in_words(heap: Global, answers: &[Answer]) -> Result<String, AllocError> {
+    let mut text = String::new(heap);
+    push_each(&mut text, answers, "", |answer: Answer| answer, "\n")?;
+    Ok(text)
+}
+
+// Items that print as their words, each behind a blank.
+#[derive(Clone, Copy)]
+struct Words<'a>(&'a [Item]);
+
+impl fmt::Display for Words<'_> {
+    ghost output = { λ w. Some (items_text w.0.now) };
+
+    fn fmt<W: fmt::Write>(&self, f: &mut fmt::Formatter<W>) -> fmt::Result {
+        for item in self.0 {
+            let word = AsWord(*item);
+            write!(f, " {word}")?;
+        }
+        Ok(())
+    }
+}
+
+// The same, added to a text.
 pub fn push_items(text: &mut String, items: &[Item]) -> Result<(), AllocError>
     ensures { OnOk result (string_bytes text.new ≡ string_bytes text.old ++ items_text items.now) }
 {
-    push_each(text, items, " ", AsWord, "")
+    let words = Words(items);
+    write!(text, "{words}")
+}
+
+// Records that print as their values, each behind a blank.
+#[derive(Clone, Copy)]
+struct Values<'a>(&'a [OutRecord]);
+
+impl fmt::Display for Values<'_> {
+    ghost output = { λ v. Some (records_text v.0.now) };
+
+    fn fmt<W: fmt::Write>(&self, f: &mut fmt::Formatter<W>) -> fmt::Result {
+        for out in self.0 {
+            let value = AsValue(*out);
+            write!(f, " {value}")?;
+        }
+        Ok(())
+    }
 }
 
 // The lines of a text strip go byte by byte with `begins`, as `lines_text` does. Over `split_inclusive` the loop's step didn't close:
@@ -95,73 +147,156 @@ fn before(begins: bool) -> &'static str
 }
 
 // A byte of a line, and nothing for the byte that ends it.
-fn push_byte(text: &mut String, begins: bool, byte: u8) -> Result<(), AllocError>
-    ensures { OnOk result (string_bytes text.new ≡ string_bytes text.old ++ byte_text begins byte) }
-{
-    text.push_str(before(begins))?;
-    if byte != b'\n' {
-        text.push(char::from(byte))?;
+#[derive(Clone, Copy)]
+struct LineByte {
+    begins: bool,
+    byte: u8,
+}
+
+impl fmt::Display for LineByte {
+    ghost output = { λ b. Some (byte_text b.begins b.byte) };
+
+    fn fmt<W: fmt::Write>(&self, f: &mut fmt::Formatter<W>) -> fmt::Result {
+        let byte = self.byte;
+        f.write_str(before(self.begins))?;
+        if byte != b'\n' {
+            f.write_char(char::from(byte))?;
+        }
+        Ok(())
     }
-    Ok(())
 }
 
 // The lines of a text strip, each behind a blank.
-fn push_lines(text: &mut String, lines: &[u8]) -> Result<(), AllocError>
-    ensures { OnOk result (string_bytes text.new ≡ string_bytes text.old ++ lines_text true lines.now) }
-{
-    let mut begins = true;
-    for byte in lines {
-        push_byte(text, begins, *byte)?;
-        begins = *byte == b'\n';
+#[derive(Clone, Copy)]
+struct Lines<'a>(&'a [u8]);
+
+impl fmt::Display for Lines<'_> {
+    ghost output = { λ l. Some (lines_text true l.0.now) };
+
+    fn fmt<W: fmt::Write>(&self, f: &mut fmt::Formatter<W>) -> fmt::Result {
+        let mut begins = true;
+        for &byte in self.0 {
+            let piece = LineByte { begins, byte };
+            write!(f, "{piece}")?;
+            begins = byte == b'\n';
+        }
+        Ok(())
     }
-    Ok(())
 }
 
 // A line of bytes in hex digits, behind a word that says what they are.
+#[derive(Clone, Copy)]
+pub struct BytesLine<'a> {
+    pub word: &'a str,
+    pub bytes: &'a [u8],
+}
+
+impl fmt::Display for BytesLine<'_> {
+    ghost output = { λ l. Some (bytes_text l.word.now l.bytes.now) };
+
+    fn fmt<W: fmt::Write>(&self, f: &mut fmt::Formatter<W>) -> fmt::Result {
+        let word = self.word;
+        if self.bytes.is_empty() {
+            return writeln!(f, "{word}");
+        }
+        let digits = Hex(self.bytes);
+        writeln!(f, "{word} {digits}")
+    }
+}
+
+// The same, added to a text.
 pub fn push_bytes(text: &mut String, word: &str, bytes: &[u8]) -> Result<(), AllocError>
     ensures { OnOk result (string_bytes text.new ≡ string_bytes text.old ++ bytes_text word.now bytes.now) }
 {
-    if bytes.is_empty() {
-        text.writeln(word)?;
-        return Ok(());
-    }
-    let digits = Hex(bytes);
-    writeln!(text, "{word} {digits}")?;
-    Ok(())
+    let line = BytesLine { word, bytes };
+    write!(text, "{line}")
 }
 
-impl Filled {
-    // The values that a strip holds, each behind a blank.
-    fn push_values(&self, text: &mut String) -> Result<(), AllocError>
-        ensures { OnOk result (string_bytes text.new ≡ string_bytes text.old ++ filled_text self.now) }
-    {
-        match self {
-            Filled::Records(records) => push_each(text, records.as_slice(), " ", AsValue, ""),
-            Filled::Text(lines) => push_lines(text, lines.as_slice()),
+// The values that a strip holds, each behind a blank.
+#[derive(Clone, Copy)]
+struct Held<'a>(&'a Filled);
+
+impl fmt::Display for Held<'_> {
+    ghost output = { λ h. Some (filled_text h.0.now) };
+
+    fn fmt<W: fmt::Write>(&self, f: &mut fmt::Formatter<W>) -> fmt::Result {
+        match self.0 {
+            Filled::Records(records) => {
+                let values = Values(records.as_slice());
+                write!(f, "{values}")
+            }
+            Filled::Text(bytes) => {
+                let lines = Lines(bytes.as_slice());
+                write!(f, "{lines}")
+            }
         }
     }
+}
 
-    // The bytes that a text strip holds.
-    fn push_memory(&self, text: &mut String) -> Result<(), AllocError>
-        ensures { OnOk result (string_bytes text.new ≡ string_bytes text.old ++ memory_text self.now) }
-    {
-        match self {
+// The line of the bytes that a text strip holds.
+#[derive(Clone, Copy)]
+struct Memory<'a>(&'a Filled);
+
+impl fmt::Display for Memory<'_> {
+    ghost output = { λ m. Some (memory_text m.0.now) };
+
+    fn fmt<W: fmt::Write>(&self, f: &mut fmt::Formatter<W>) -> fmt::Result {
+        match self.0 {
             Filled::Records(_) => Ok(()),
-            Filled::Text(bytes) => push_bytes(text, "text", bytes.as_slice()),
+            Filled::Text(bytes) => {
+                let line = BytesLine {
+                    word: "text",
+                    bytes: bytes.as_slice(),
+                };
+                write!(f, "{line}")
+            }
         }
     }
 }
 
 // What is left, in three lines, and for a text strip a fourth with its bytes.
+impl fmt::Display for Left {
+    ghost output = { λ left. Some (left_text left) };
+
+    fn fmt<W: fmt::Write>(&self, f: &mut fmt::Formatter<W>) -> fmt::Result {
+        let items = Words(self.items.as_slice());
+        let values = Held(&self.filled);
+        let space = self.space;
+        let memory = Memory(&self.filled);
+        write!(f, "feed{items}\nheld{values}\nspace {space}\n{memory}")
+    }
+}
+
+// The same as a text.
 pub fn left_text(heap: Global, left: &Left) -> Result<String, AllocError>
     ensures { IfOk result (λ text. string_bytes text ≡ left_text left.now) }
 {
-    let mut text = String::from_str(heap, "feed")?;
-    push_items(&mut text, left.items.as_slice())?;
-    text.push_str("\nheld")?;
-    left.filled.push_values(&mut text)?;
-    let space = left.space;
-    write!(text, "\nspace {space}\n")?;
-    left.filled.push_memory(&mut text)?;
-    Ok(text)
+    format!(in heap; "{left}")
+}
+
+// What a session prints: its answers as they are shown, a line each, and then what it leaves; or the refusal of its ramp alone. It
+// holds what is shown, and none of the text.
+#[derive(Drop)]
+pub enum Printout<D> {
+    Carried { answers: Vec<D>, left: Left },
+    Refused(Refusal),
+}
+
+impl<D: fmt::Display> fmt::Display for Printout<D> {
+    ghost output = { λ p. printout_text D.output p };
+
+    fn fmt<W: fmt::Write>(&self, f: &mut fmt::Formatter<W>) -> fmt::Result {
+        match self {
+            Printout::Carried { answers, left } => {
+                for answer in answers.as_slice() {
+                    writeln!(f, "{answer}")?;
+                }
+                write!(f, "{left}")
+            }
+            Printout::Refused(refusal) => {
+                let answer = InNumbers(Answer::Refused(*refusal));
+                writeln!(f, "{answer}")
+            }
+        }
+    }
 }

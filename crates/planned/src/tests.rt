@@ -1,12 +1,22 @@
 // Whole sessions, from their lines to what they print.
-use crate::plan::Plan;
-use crate::show::InNumbers;
-use crate::whole::session_text;
+use crate::plan::{Plan, Session};
+use crate::show::{InNumbers, answers_in_numbers, answers_in_words};
+use crate::whole::{printout, session_text};
 use session::Answer;
 use std::fmt;
 use std::test::Fail;
+use vocabulary::refusal::{Cause, Refusal};
 
-// The text of the session that these lines plan.
+// The session that these lines plan.
+fn session_of(rt: &HostRuntime, lines: &[&str]) -> Result<Session, Fail> {
+    let mut plan = Plan::new(rt.alloc());
+    for line in lines {
+        plan.read(rt.alloc(), line.as_bytes())?;
+    }
+    Ok(plan.finish().ok_or("feed or strip is wanting")?)
+}
+
+// What that session prints, as a text.
 fn text_of<D: fmt::Display + Drop, F: Fn(Answer) -> D>(
     rt: &HostRuntime,
     lines: &[&str],
@@ -14,11 +24,7 @@ fn text_of<D: fmt::Display + Drop, F: Fn(Answer) -> D>(
 ) -> Result<String, Fail>
     requires { F.IsAlwaysCallable shown }
 {
-    let mut plan = Plan::new(rt.alloc());
-    for line in lines {
-        plan.read(rt.alloc(), line.as_bytes())?;
-    }
-    let session = plan.finish().ok_or("feed or strip is wanting")?;
+    let session = session_of(rt, lines)?;
     Ok(session_text(rt.alloc(), &session, shown)?)
 }
 
@@ -53,6 +59,38 @@ fn leaves_a_ramp(rt: HostRuntime) -> Result<(), Fail> {
     assert_eq!(rt;
         text_of(&rt, &lines, InNumbers)?.as_str(),
         "refused 1 0\nfeed 1 3 5\nheld\nspace 4\n"
+    );
+    Ok(())
+}
+
+// A ramp that is refused, and the value that is printed of it.
+#[test]
+fn refuses_a_ramp(rt: HostRuntime) -> Result<(), Fail> {
+    let lines = ["feed ramp 2147483647 1 2", "strip text 4", "report"];
+    let session = session_of(&rt, &lines)?;
+    let page = printout(rt.alloc(), &session, InNumbers)?;
+    assert_eq!(rt;
+        format!(in rt.alloc(); "{page}")?.as_str(),
+        "refused 16 0\n"
+    );
+    Ok(())
+}
+
+// Answers alone, in numbers and as sentences.
+#[test]
+fn shows_answers(rt: HostRuntime) -> Result<(), Fail> {
+    let refusal = Refusal {
+        cause: Cause::NoProgram,
+        node: 0,
+    };
+    let answers = [Answer::Done, Answer::Refused(refusal)];
+    assert_eq!(rt;
+        answers_in_numbers(rt.alloc(), &answers)?.as_str(),
+        "done\nrefused 1 0\n"
+    );
+    assert_eq!(rt;
+        answers_in_words(rt.alloc(), &answers)?.as_str(),
+        "done\nrefused (1): no program is loaded\n"
     );
     Ok(())
 }

@@ -1,14 +1,16 @@
 // A whole session: its calls are carried out by the one call whose contract has the law of takes.
 ghost use Rattle.std.specs.Prelude.{◌≡◌, ℕ, List, [], ◌∷◌, ◌++◌, Some, IfOk, map, string_bytes, vec_items};
+ghost use Rattle.std.specs.List.{flat_map};
 ghost use Rattle.notation.specs.Lines.{spoken_call};
 ghost use Rattle.session.specs.Law.{Session as LawfulSession};
 ghost use Rattle.session.specs.declared.Answer.{Answer as SessionAnswer};
 ghost use Rattle.planned.specs.Carried.{Carried};
+ghost use Rattle.planned.specs.Printouts.{lines_shown, printout_text};
 ghost use Rattle.planned.specs.Sessions.{Answers, Printed, call_said};
 
 use crate::carry::{CarryError, Job, Outcome, carry_out};
 use crate::plan::Session;
-use crate::show::{InNumbers, left_text, push_each};
+use crate::show::Printout;
 use notation::plan::CallPlan;
 use ports::feed::Feed;
 use ports::strip::Strip;
@@ -74,8 +76,43 @@ pub fn carry_out_session(
     carry_out(heap, &job, &session.feed, session.strip)
 }
 
+// The answers as `shown` shows them.
+fn shown_each<D: fmt::Display + Drop, F: Fn(Answer) -> D>(
+    heap: Global,
+    answers: &[Answer],
+    shown: F,
+) -> Result<Vec<D>, AllocError>
+    requires { F.IsAlwaysCallable shown }
+    ensures { (piece : SessionAnswer → List ℕ) → ((a : SessionAnswer) (d : D) → F.post shown a d → (word : List ℕ) × (D.output d ≡ Some word) × (piece a ≡ word ++ (10 ∷ []))) → IfOk result (λ all. lines_shown D.output (vec_items all) ≡ Some (flat_map piece answers.now)) }
+{
+    let mut all = Vec::with_capacity(heap, answers.len())?;
+    for answer in answers {
+        all.push(shown(*answer))?;
+    }
+    Ok(all)
+}
+
 // What a session prints: each answer as `shown` shows it, a line each, and then what the session leaves; or the refusal of its ramp
-// alone.
+// alone. It prints piece by piece: none of its text is held.
+pub fn printout<D: fmt::Display + Drop, F: Fn(Answer) -> D>(
+    heap: Global,
+    session: &Session,
+    shown: F,
+) -> Result<Printout<D>, AllocError>
+    requires { F.IsAlwaysCallable shown }
+    ensures { (piece : SessionAnswer → List ℕ) → ((a : SessionAnswer) (d : D) → F.post shown a d → (word : List ℕ) × (D.output d ≡ Some word) × (piece a ≡ word ++ (10 ∷ []))) → IfOk result (λ p. (text : List ℕ) × (printout_text D.output p ≡ Some text) × Printed piece session.now text) }
+{
+    match carry_out_session(heap, session) {
+        Ok(Outcome { answer, left }) => {
+            let answers = shown_each(heap, answer.as_slice(), shown)?;
+            Ok(Printout::Carried { answers, left })
+        }
+        Err(CarryError::Refused(refusal)) => Ok(Printout::Refused(refusal)),
+        Err(CarryError::Failed(error)) => Err(error),
+    }
+}
+
+// The same as a text.
 pub fn session_text<D: fmt::Display + Drop, F: Fn(Answer) -> D>(
     heap: Global,
     session: &Session,
@@ -84,18 +121,6 @@ pub fn session_text<D: fmt::Display + Drop, F: Fn(Answer) -> D>(
     requires { F.IsAlwaysCallable shown }
     ensures { (piece : SessionAnswer → List ℕ) → ((a : SessionAnswer) (d : D) → F.post shown a d → (word : List ℕ) × (D.output d ≡ Some word) × (piece a ≡ word ++ (10 ∷ []))) → IfOk result (λ text. Printed piece session.now (string_bytes text)) }
 {
-    match carry_out_session(heap, session) {
-        Ok(outcome) => {
-            let mut text = String::new(heap);
-            push_each(&mut text, outcome.answer.as_slice(), "", shown, "\n")?;
-            let left = left_text(heap, &outcome.left)?;
-            text.push_str(left.as_str())?;
-            Ok(text)
-        }
-        Err(CarryError::Refused(refusal)) => {
-            let answer = InNumbers(Answer::Refused(refusal));
-            format!(in heap; "{answer}\n")
-        }
-        Err(CarryError::Failed(error)) => Err(error),
-    }
+    let page = printout(heap, session, shown)?;
+    format!(in heap; "{page}")
 }

@@ -1,14 +1,16 @@
 // A session from standard input: all of it is read before anything is carried out.
 use anyhow::anyhow;
+use notation::error::ReadError;
 use planned::input::read_session;
 use planned::plan::{Plan, PlanError};
-use planned::whole::session_text;
+use planned::whole::printout;
 use script::read::{line_of, words_of};
 use session::Answer;
 use std::alloc::Global;
 use std::fmt;
 
-// Takes in a line of text. `small` says of a second feed or strip what it always has, in other words than the plan.
+// Takes in a line of text. `small` says of a second feed or strip, and of want of memory, what it always has, in other words than the
+// plan.
 fn take(heap: Global, plan: &mut Plan, text: &str) -> anyhow::Result<()> {
     let words = words_of(heap, text)?;
     if words.is_empty() {
@@ -18,6 +20,7 @@ fn take(heap: Global, plan: &mut Plan, text: &str) -> anyhow::Result<()> {
     plan.add(line).map_err(|error| match error {
         PlanError::SecondFeed => anyhow!("there is a feed already"),
         PlanError::SecondStrip => anyhow!("there is a strip already"),
+        PlanError::Line(ReadError::Memory) => anyhow!("memory allocation failed"),
         other => anyhow::Error::from(other),
     })
 }
@@ -36,6 +39,6 @@ pub fn run_session<D: fmt::Display + Drop, F: Fn(Answer) -> D>(
         "error: a session has a feed line and a strip line",
     )?
     .ok_or(anyhow!("there is no session"))?;
-    rt.print(session_text(heap, &session, shown)?)?;
+    rt.print(printout(heap, &session, shown)?)?;
     Ok(())
 }

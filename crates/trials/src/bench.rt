@@ -3,7 +3,7 @@ use crate::plan::Step;
 use crate::show::{print_code, print_sum};
 use anyhow::anyhow;
 use notation::plan::CallPlan;
-use planned::show::{InNumbers, push_bytes};
+use planned::show::{BytesLine, InNumbers};
 use ports::feed::Feed;
 use ports::strip::Strip;
 use sequencer::state::Sequencer;
@@ -96,9 +96,10 @@ impl Bench {
     }
 
     fn look(&self, rt: &HostRuntime) -> io::Result<()> {
-        let mut text = String::new(rt.alloc());
-        push_bytes(&mut text, "memory", self.memory.as_slice())?;
-        rt.print(text)
+        rt.print(BytesLine {
+            word: "memory",
+            bytes: self.memory.as_slice(),
+        })
     }
 
     // Whether a sheet with this change of one byte is refused; the change is taken back.
@@ -109,11 +110,11 @@ impl Bench {
         opened.is_err()
     }
 
-    // Prints how many of the sheets that differ from this one in one byte are refused, and how many there are. Two ranges, since the
-    // same copy is changed at a place and changed back: an iterator over its bytes would hold it.
+    // Prints how many of the sheets that differ from this one in one byte are refused, and how many there are, neither of which counts
+    // past 32 bits. Two ranges, since the same copy is changed at a place and changed back: an iterator over its bytes would hold it.
     fn flips(&mut self, rt: &HostRuntime, sheet: &[u8]) -> anyhow::Result<()> {
         let mut copy = sheet.to_vec(rt.alloc())?;
-        let mut refused = 0usize;
+        let mut refused = 0u32;
         for at in 0..sheet.len() {
             for change in 1..=u8::MAX {
                 if self.refuses(copy.as_mut_slice(), at, change) {
@@ -121,7 +122,7 @@ impl Bench {
                 }
             }
         }
-        let tried = sheet.len().saturating_mul(255);
+        let tried = u32::try_from(sheet.len().saturating_mul(255)).unwrap_or(u32::MAX);
         println!(rt; "flips {refused} {tried}")?;
         Ok(())
     }

@@ -1,10 +1,10 @@
 // Carrying out a trial: one answer line a step.
 use crate::bench::Bench;
 use crate::plan::{Step, Trial, Work};
-use planned::carry::{CarryError, Job, carry_out};
+use planned::carry::{CarryError, Job, Outcome, carry_out};
 use planned::plan::Session;
-use planned::show::{InNumbers, left_text};
-use planned::whole::session_text;
+use planned::show::InNumbers;
+use planned::whole::printout;
 use ports::feed::Feed;
 use ports::strip::Strip;
 use session::Answer;
@@ -45,7 +45,7 @@ pub fn carry_out_trial(rt: &HostRuntime, trial: Trial) -> anyhow::Result<()> {
         Work::Steps(steps) => steps,
         Work::Session(calls) => {
             let session = Session { feed, strip, calls };
-            rt.print(session_text(rt.alloc(), &session, InNumbers)?)?;
+            rt.print(printout(rt.alloc(), &session, InNumbers)?)?;
             return Ok(());
         }
     };
@@ -54,7 +54,7 @@ pub fn carry_out_trial(rt: &HostRuntime, trial: Trial) -> anyhow::Result<()> {
         steps: steps.as_slice(),
     };
     match carry_out(rt.alloc(), &job, &feed, strip) {
-        Ok(outcome) => rt.print(left_text(rt.alloc(), &outcome.left)?)?,
+        Ok(Outcome { left, .. }) => rt.print(left)?,
         Err(CarryError::Refused(refusal)) => rt.println(InNumbers(Answer::Refused(refusal)))?,
         Err(CarryError::Failed(error)) => return Err(error),
     }

@@ -1,5 +1,4 @@
 // A program's code, word for word or as a sum.
-use planned::show::push_each;
 use sheet::layout::Entry;
 use std::{fmt, io};
 use vocabulary::code::Word;
@@ -18,11 +17,24 @@ impl fmt::Display for WordInNumbers {
     }
 }
 
+// Each of them behind a blank.
+#[derive(Clone, Copy)]
+struct CodeInNumbers<'a>(&'a [Word]);
+
+impl fmt::Display for CodeInNumbers<'_> {
+    fn fmt<W: fmt::Write>(&self, f: &mut fmt::Formatter<W>) -> fmt::Result {
+        for word in self.0 {
+            let word = WordInNumbers(*word);
+            write!(f, " {word}")?;
+        }
+        Ok(())
+    }
+}
+
 // Each word in numbers.
 pub fn print_code(rt: &HostRuntime, code: &[Word]) -> io::Result<()> {
-    let mut text = String::from_str(rt.alloc(), "code")?;
-    push_each(&mut text, code, " ", WordInNumbers, "")?;
-    rt.println(text)
+    let words = CodeInNumbers(code);
+    println!(rt; "code{words}")
 }
 
 // The 32-bit FNV-1a sum, gone on with over the bytes of these entries, as a sheet has them.

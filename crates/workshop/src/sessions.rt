@@ -1,7 +1,7 @@
 // `workshop session`: a session from standard input, all of which is read before anything is carried out.
 use crate::stop::Stop;
 use planned::input::read_session;
-use planned::whole::session_text;
+use planned::whole::printout;
 use session::Answer;
 use std::fmt;
 
@@ -19,6 +19,6 @@ pub fn run_session<D: fmt::Display + Drop, F: Fn(Answer) -> D>(
         "workshop: a session has a feed line and a strip line, before its calls",
     )?
     .ok_or(Stop::Told)?;
-    rt.print(session_text(heap, &session, shown)?)?;
+    rt.print(printout(heap, &session, shown)?)?;
     Ok(())
 }

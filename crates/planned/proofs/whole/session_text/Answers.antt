@@ -1,13 +1,12 @@
-use Rattle.std.proofs.Common.{rules, vec_items, inl}
+use Rattle.std.proofs.Common.{◌≡◌, ℕ, List, Option, string_bytes, sym, subst}
+use Rattle.std.specs.Prelude.{IfSome}
+use Rattle.std.proofs.lemmas.Result.{IfOk-weaker}
+use Rattle.planned.specs.Sessions.{Printed}
 use Rattle.planned.proofs.whole.session_text.Goals as goal
 
-pub returns-in-Ok : goal.returns-in-Ok
-returns-in-Ok g c piece h =
-    let pushed = c.in_ok-push_each-in-Ok.ensures piece h in
-    inl (
-      vec_items c.in-Ok.outcome.answer,
-      c.in-Ok.outcome.left,
-      c.in-Ok.ensures.0,
-      c.in-Ok.ensures.1,
-      search (rules, pushed, c.in_ok-push_str-in-Ok.ensures.bytes, c.in_ok-left-in-Ok.ensures, c.as_str.ensures.value, c.new-text.ensures.bytes, c.as_slice.ensures.value),
-    )
+pub returns : goal.returns
+returns g c = λ piece h.
+    let p = c.in_ok-page.ensures piece h in
+    IfOk-weaker c.format.result _ _
+    (λ text q. subst (λ (t : List ℕ). Printed piece c.args.session.now t) (sym (subst (λ (o : Option (List ℕ)). IfSome o (λ bs. string_bytes text ≡ bs)) p.1 q)) p.2)
+    c.format.ensures.ok
